@@ -1,0 +1,4 @@
+pub mod Rows
+pub mod Region
+pub mod Table
+pub mod Sums

@@ -1,0 +1,58 @@
+-- The limits of document 01, each named once; src/limits.rt has the same names for the code. Assumes nothing.
+use Prim.Native.Nat.{ℕ, _*_}
+
+-- the longest sample, the bytes that a place keeps, and the least output
+abbrev pub sampleMost : ℕ
+sampleMost = 1024
+
+-- the longest description, and a record with its four bytes in front
+abbrev pub descriptionMost : ℕ
+descriptionMost = 256
+
+abbrev pub recordSize : ℕ
+recordSize = 260
+
+abbrev pub partsMost : ℕ
+partsMost = 15
+
+-- finished times kept for each desk
+abbrev pub finishedMost : ℕ
+finishedMost = 16
+
+-- in-band values: how many there are, and how many of them a desk's window holds
+abbrev pub inBand : ℕ
+inBand = 128
+
+abbrev pub window : ℕ
+window = 64
+
+-- the reserved index
+abbrev pub reserved : ℕ
+reserved = 255
+
+abbrev pub desksMost : ℕ
+desksMost = 8
+
+-- open samples: a desk's own places, and the most that it may have
+abbrev pub ownPlaces : ℕ
+ownPlaces = 2
+
+abbrev pub openMost : ℕ
+openMost = 6
+
+-- n desks have 4n places, of which 2n are common
+abbrev pub places : ℕ → ℕ
+places n = 4 * n
+
+abbrev pub common : ℕ → ℕ
+common n = 2 * n
+
+-- the writer's size limit, and the first SDUR that does not fit 24 bits
+abbrev pub sizeLeast : ℕ
+sizeLeast = 14
+
+abbrev pub sizeMost : ℕ
+sizeMost = 1400
+
+abbrev pub durations : ℕ
+durations = 16777216
