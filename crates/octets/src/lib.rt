@@ -3,7 +3,7 @@ ghost use mathlib.Core.Path.{_≡_};
 ghost use Prim.Native.Nat.{_<_, _-_, min};
 ghost use lib.Seq.{sets};
 ghost use Rattle.laws.specs.Region.{part};
-ghost use Rattle.octets.specs.Be.{u8At, u16At, u24At};
+ghost use Rattle.octets.specs.Be.{u8At, u16At, u24At, u32At};
 
 pub fn byte(s: &[u8], i: usize) -> usize
     ensures { λ r. ⌜ (r ≡ u8At (now (s .entry)) i) × (r < 256) ⌝ }
@@ -27,6 +27,15 @@ pub fn number24(s: &[u8], i: usize) -> usize
         return 0;
     }
     byte(s, i) * 65536 + number16(s, i + 1)
+}
+
+pub fn number32(s: &[u8], i: usize) -> usize
+    ensures { λ r. ⌜ (r ≡ u32At (now (s .entry)) i) × (r < 4294967296) ⌝ }
+{
+    if s.len() <= i {
+        return 0;
+    }
+    number16(s, i) * 65536 + number16(s, i + 2)
 }
 
 // a - b, and 0 where b is larger: what `-` says of natural numbers.

@@ -1,0 +1,11 @@
+// Runs the compiled leaves over tables of inputs, valid and damaged, and prints what they find, a line a case.
+mod layouts;
+mod print;
+
+fn main() {
+    layouts::frames();
+    layouts::wholes();
+    layouts::parts();
+    layouts::descriptions();
+    layouts::heads();
+}
