@@ -58,8 +58,9 @@ fn tell(x: Unit) {
 
 // One line: the rest, the bytes used, the unit with its fields.
 fn rest(s: &[u8]) {
+    print::word(b"rest");
     print::bytes(s);
-    print::word(b"used");
+    print::word(b" used");
     let r = unit::read(s);
     print::number(r.used);
     print::word(b" ");
@@ -124,12 +125,14 @@ pub(crate) fn descriptions() {
     rest(b"\x05\x00\x04\xff\x41");
 }
 
-// One line: the unit, and the output after its header was put over twelve bytes of aa.
+// One line: the unit, its header's length, and the output after the header was put over twelve bytes of aa.
 fn head(x: Unit) {
     let mut out = [0xaau8; 12];
-    unit::put_head(&mut out, x);
+    let n = unit::put_head(&mut out, x);
     tell(x);
-    print::word(b": ");
+    print::word(b" has a header of");
+    print::number(n);
+    print::word(b":");
     print::bytes(&out);
     print::end_line();
 }

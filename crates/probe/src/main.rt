@@ -1,8 +1,10 @@
 // Runs the compiled leaves over tables of inputs, valid and damaged, and prints what they find, a line a case.
+mod characters;
 mod layouts;
 mod print;
 
 fn main() {
+    characters::strings();
     layouts::frames();
     layouts::wholes();
     layouts::parts();

@@ -18,12 +18,12 @@ pub(crate) fn end_line() {
     io::write_all(STDOUT_FILENO, b"\n");
 }
 
-// The bytes in hexadecimal, a blank behind each.
+// The bytes in hexadecimal, a blank before each.
 pub(crate) fn bytes(s: &[u8]) {
     let mut i = 0;
     while i < s.len() {
-        io::print_hex(STDOUT_FILENO, octets::byte(s, i) as u64, 2);
         blank();
+        io::print_hex(STDOUT_FILENO, octets::byte(s, i) as u64, 2);
         i += 1;
     }
 }

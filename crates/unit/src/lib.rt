@@ -3,6 +3,7 @@ use paper::Refusal;
 use paper::limits::IN_BAND;
 use paper::limits::RESERVED;
 ghost use mathlib.Core.Path.{_≡_};
+ghost use lib.ListN.{length};
 ghost use lib.Seq.{sets};
 ghost use Rattle.unit.specs.Layout.{wholeAt, stringAt, modifiersAt, descriptionAt, fieldsOf, least, badWhole, badPart, badDescription, badFields, broken, judged, readOf};
 ghost use Rattle.unit.specs.Head.{wholeHead, stringHead, modifiersHead, partHead, descriptionHead, headOf};
@@ -260,8 +261,8 @@ pub fn read(rest: &[u8]) -> Reading
     }
 }
 
-fn put_whole(out: &mut [u8], w: Whole)
-    ensures { λ _. ⌜ now (out .exit) ≡ sets (now (out .entry)) 0 (wholeHead w) ⌝ }
+fn put_whole(out: &mut [u8], w: Whole) -> usize
+    ensures { λ r. ⌜ (r ≡ length (wholeHead w)) × (now (out .exit) ≡ sets (now (out .entry)) 0 (wholeHead w)) ⌝ }
 {
     let len = w.len % 65536 + 8;
     let head = [
@@ -276,10 +277,11 @@ fn put_whole(out: &mut [u8], w: Whole)
         (w.tlen % 256) as u8,
     ];
     octets::put(out, 0, &head);
+    9
 }
 
-fn put_string(out: &mut [u8], w: Part)
-    ensures { λ _. ⌜ now (out .exit) ≡ sets (now (out .entry)) 0 (stringHead w) ⌝ }
+fn put_string(out: &mut [u8], w: Part) -> usize
+    ensures { λ r. ⌜ (r ≡ length (stringHead w)) × (now (out .exit) ≡ sets (now (out .entry)) 0 (stringHead w)) ⌝ }
 {
     let len = w.len % 65536 + 9;
     let head = [
@@ -295,10 +297,11 @@ fn put_string(out: &mut [u8], w: Part)
         (w.slen % 256) as u8,
     ];
     octets::put(out, 0, &head);
+    10
 }
 
-fn put_modifiers(out: &mut [u8], w: Part)
-    ensures { λ _. ⌜ now (out .exit) ≡ sets (now (out .entry)) 0 (modifiersHead w) ⌝ }
+fn put_modifiers(out: &mut [u8], w: Part) -> usize
+    ensures { λ r. ⌜ (r ≡ length (modifiersHead w)) × (now (out .exit) ≡ sets (now (out .entry)) 0 (modifiersHead w)) ⌝ }
 {
     let len = w.len % 65536 + 6;
     let head = [
@@ -311,20 +314,20 @@ fn put_modifiers(out: &mut [u8], w: Part)
         (w.sdur % 256) as u8,
     ];
     octets::put(out, 0, &head);
+    7
 }
 
-fn put_part(out: &mut [u8], w: Part)
-    ensures { λ _. ⌜ now (out .exit) ≡ sets (now (out .entry)) 0 (partHead w) ⌝ }
+fn put_part(out: &mut [u8], w: Part) -> usize
+    ensures { λ r. ⌜ (r ≡ length (partHead w)) × (now (out .exit) ≡ sets (now (out .entry)) 0 (partHead w)) ⌝ }
 {
     if w.kind == 2 {
-        put_string(out, w);
-    } else {
-        put_modifiers(out, w);
+        return put_string(out, w);
     }
+    put_modifiers(out, w)
 }
 
-fn put_description(out: &mut [u8], w: Description)
-    ensures { λ _. ⌜ now (out .exit) ≡ sets (now (out .entry)) 0 (descriptionHead w) ⌝ }
+fn put_description(out: &mut [u8], w: Description) -> usize
+    ensures { λ r. ⌜ (r ≡ length (descriptionHead w)) × (now (out .exit) ≡ sets (now (out .entry)) 0 (descriptionHead w)) ⌝ }
 {
     let len = w.len % 65536 + 3;
     let head = [
@@ -334,18 +337,19 @@ fn put_description(out: &mut [u8], w: Description)
         (w.sidx % 256) as u8,
     ];
     octets::put(out, 0, &head);
+    4
 }
 
-// Puts the unit's header over the front of the output; what lies behind it stays. No unit: nothing.
-pub fn put_head(out: &mut [u8], x: Unit)
-    ensures { λ _. ⌜ now (out .exit) ≡ sets (now (out .entry)) 0 (headOf x) ⌝ }
+// Puts the unit's header over the front of the output, and answers its length; what lies behind it stays. No unit: nothing.
+pub fn put_head(out: &mut [u8], x: Unit) -> usize
+    ensures { λ r. ⌜ (r ≡ length (headOf x)) × (now (out .exit) ≡ sets (now (out .entry)) 0 (headOf x)) ⌝ }
 {
     match x {
         Unit::Whole(w) => put_whole(out, w),
         Unit::Part(w) => put_part(out, w),
         Unit::Description(w) => put_description(out, w),
-        Unit::End => {}
-        Unit::Skipped(_) => {}
-        Unit::Refused(_) => {}
+        Unit::End => 0,
+        Unit::Skipped(_) => 0,
+        Unit::Refused(_) => 0,
     }
 }

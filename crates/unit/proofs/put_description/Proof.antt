@@ -15,4 +15,4 @@ put-description-spec =
     (λ c. search needs)
     (λ c κs. search needs)
     (λ c. search needs)
-    (λ c. let n = c .before .before .before .before .before .before .before .before .args .w .len in rw (← (high n 3), ← (low n 3)) (c .before .before .put .ensures)))
+    (λ c. let n = c .before .before .before .before .before .before .before .before .args .w .len in (search needs, rw (← (high n 3), ← (low n 3)) (c .before .before .put .ensures))))

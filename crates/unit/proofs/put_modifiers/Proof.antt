@@ -22,4 +22,4 @@ put-modifiers-spec =
     (λ c. search needs)
     (λ c κs. search needs)
     (λ c. search needs)
-    (λ c. let n = c .before .before .before .before .before .before .before .before .before .before .before .before .before .args .w .len in rw (zero-add, ← (high n 6), ← (low n 6)) (c .before .before .put .ensures)))
+    (λ c. let n = c .before .before .before .before .before .before .before .before .before .before .before .before .before .args .w .len in (search needs, rw (zero-add, ← (high n 6), ← (low n 6)) (c .before .before .put .ensures))))

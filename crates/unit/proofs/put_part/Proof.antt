@@ -10,8 +10,8 @@ put-part-spec =
     tie.close
     (tie.spec
     (λ c κs. search needs)
-    (λ c κs. search needs)
     (λ c. search needs)
     (λ c. rw (string-head (c .before .before .before .before .before .before .before .args .w) (omega arith)) (c .before .before .put-string .ensures))
+    (λ c κs. search needs)
     (λ c. search needs)
     (λ c. rw (modifiers-head (c .before .before .before .before .before .before .before .args .w) (λ h. omega arith)) (c .before .before .put-modifiers .ensures)))

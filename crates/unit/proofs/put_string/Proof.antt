@@ -26,4 +26,4 @@ put-string-spec =
     (λ c. search needs)
     (λ c κs. search needs)
     (λ c. search needs)
-    (λ c. let n = c .before .before .before .before .before .before .before .before .before .before .before .before .before .before .before .before .args .w .len in rw (← (high n 9), ← (low n 9)) (c .before .before .put .ensures)))
+    (λ c. let n = c .before .before .before .before .before .before .before .before .before .before .before .before .before .before .before .before .args .w .len in (search needs, rw (← (high n 9), ← (low n 9)) (c .before .before .put .ensures))))

@@ -23,4 +23,4 @@ put-whole-spec =
     (λ c. search needs)
     (λ c κs. search needs)
     (λ c. search needs)
-    (λ c. let n = c .before .before .before .before .before .before .before .before .before .before .before .before .before .before .args .w .len in rw (← (high n 8), ← (low n 8)) (c .before .before .put .ensures)))
+    (λ c. let n = c .before .before .before .before .before .before .before .before .before .before .before .before .before .before .args .w .len in (search needs, rw (← (high n 8), ← (low n 8)) (c .before .before .put .ensures))))

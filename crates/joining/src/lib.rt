@@ -1,0 +1,1 @@
+// No code: what a complete set of parts is put together to, on paper.

@@ -1,0 +1,97 @@
+-- The encodings: how long one is, and that the number put together from the bytes is the one that was encoded. Assumes nothing.
+use Prim.Native.Nat.{ℕ, _+_, _-_, _*_, _/_, _%_, _<_, _≤_}
+use native.Mathlib.Omega.{arith}
+use mathlib.Core.Path.{_≡_, refl, sym}
+use mathlib.Core.Logic.{_⊎_, inl, inr, ⊎-elim}
+use mathlib.Core.Bool.{Bool, true, false}
+use mathlib.Core.List.{List, [], _∷_, _++_}
+use lib.ListN.{length}
+use Rattle.laws.specs.Rows.{_⇒_⁏_, _=?_, yes, no, lt, ge, lt-of, ge-of, each, and-of, and-is, or-of}
+use Rattle.octets.specs.Be.{be16}
+use Rattle.text.specs.Unicode.{scalar, utf8, utf16, encoded, decoded8, decoded16, decoded}
+
+-- what holds of each form holds of the encoding
+pub utf8-forms : (P : List ℕ → Type 0) (c : ℕ)
+    → (c < 128 → P (c ∷ []))
+    → (128 ≤ c → c < 2048 → P ((192 + c / 64) ∷ (128 + c % 64) ∷ []))
+    → (2048 ≤ c → c < 65536 → P ((224 + c / 4096) ∷ (128 + c / 64 % 64) ∷ (128 + c % 64) ∷ []))
+    → (65536 ≤ c → P ((240 + c / 262144) ∷ (128 + c / 4096 % 64) ∷ (128 + c / 64 % 64) ∷ (128 + c % 64) ∷ []))
+    → P (utf8 c)
+unfolding utf8
+utf8-forms P c one two three four =
+    each P _ _ _ (λ h. one (lt-of _ _ h))
+    (λ h. each P _ _ _ (λ k. two (ge-of _ _ h) (lt-of _ _ k))
+    (λ k. each P _ _ _ (λ l. three (ge-of _ _ k) (lt-of _ _ l)) (λ l. four (ge-of _ _ l))))
+
+pub utf16-forms : (P : List ℕ → Type 0) (c : ℕ)
+    → (c < 65536 → P (be16 c))
+    → (65536 ≤ c → P (be16 (55296 + (c - 65536) / 1024) ++ be16 (56320 + (c - 65536) % 1024)))
+    → P (utf16 c)
+unfolding utf16
+utf16-forms P c one two = each P _ _ _ (λ h. one (lt-of _ _ h)) (λ h. two (ge-of _ _ h))
+
+abbrev Sized : List ℕ → Type 0
+Sized x = (1 ≤ length x) × (length x ≤ 4)
+
+-- an encoding has one to four bytes
+pub encoded-sized : (U c : ℕ) → (1 ≤ length (encoded U c)) × (length (encoded U c) ≤ 4)
+unfolding encoded
+encoded-sized U c =
+    each Sized _ _ _
+    (λ u. utf8-forms Sized c (λ h. omega arith) (λ h k. omega arith) (λ h k. omega arith) (λ h. omega arith))
+    (λ u. utf16-forms Sized c (λ h. omega arith) (λ h. omega arith))
+
+-- a scalar value is no surrogate, and at most 10FFFF
+pub scalar-of : (c : ℕ) → scalar c ≡ true → (c < 55296) ⊎ ((57343 < c) × (c < 1114112))
+unfolding scalar
+scalar-of c h =
+    ⊎-elim (λ a. inl (lt-of _ _ a)) (λ b. let t = and-of _ _ b in inr (lt-of _ _ (t .0), lt-of _ _ (t .1))) (or-of _ _ h)
+
+pub scalar-is : (c : ℕ) → (c < 55296) ⊎ ((57343 < c) × (c < 1114112)) → scalar c ≡ true
+unfolding scalar
+scalar-is c h =
+    ⊎-elim
+    (λ low. sym (yes _ _ (lt _ _ low) refl))
+    (λ high. sym (no _ _ (ge _ _ (omega arith)) (sym (and-is _ _ (lt _ _ (high .0)) (lt _ _ (high .1))))))
+    h
+
+pub scalar-top : (c : ℕ) → scalar c ≡ true → c < 1114112
+scalar-top c h = ⊎-elim (λ low. omega arith) (λ high. omega arith) (scalar-of c h)
+
+decoded-utf8 : (c : ℕ) (rest : List ℕ) → c < 1114112 → decoded8 (utf8 c ++ rest) ≡ c
+unfolding decoded8
+decoded-utf8 c rest top =
+    let a : c / 64 / 64 ≡ c / 4096 = omega arith in
+    let b : c / 4096 / 64 ≡ c / 262144 = omega arith in
+    utf8-forms (λ x. decoded8 (x ++ rest) ≡ c) c
+    (λ h. sym (yes _ _ (lt _ _ h) refl))
+    (λ h k. sym (no _ _ (ge _ _ (omega arith)) (yes _ _ (lt _ _ (omega arith)) (omega arith))))
+    (λ h k. sym (no _ _ (ge _ _ (omega arith)) (no _ _ (ge _ _ (omega arith)) (yes _ _ (lt _ _ (omega arith)) (omega arith)))))
+    (λ h. sym (no _ _ (ge _ _ (omega arith)) (no _ _ (ge _ _ (omega arith)) (no _ _ (ge _ _ (omega arith)) (omega arith)))))
+
+-- a number of 16 bits, back from its bytes
+pub two-bytes : (x : ℕ) → x < 65536 → x / 256 % 256 * 256 + x % 256 ≡ x
+two-bytes x h = omega arith
+
+decoded-utf16 : (c : ℕ) (rest : List ℕ) → scalar c ≡ true → decoded16 (utf16 c ++ rest) ≡ c
+unfolding decoded16
+decoded-utf16 c rest good =
+    utf16-forms (λ x. decoded16 (x ++ rest) ≡ c) c
+    (λ h. rw (two-bytes c h)
+    (⊎-elim
+    (λ low. sym (yes _ _ (lt _ _ low) refl))
+    (λ high. sym (no _ _ (ge _ _ (omega arith)) (yes _ _ (lt _ _ (omega arith)) refl)))
+    (scalar-of c good)))
+    (λ h.
+    let top = scalar-top c good in
+    rw (two-bytes (55296 + (c - 65536) / 1024) (omega arith), two-bytes (56320 + (c - 65536) % 1024) (omega arith))
+    (sym (no _ _ (ge _ _ (omega arith)) (no _ _ (ge _ _ (omega arith)) (omega arith)))))
+
+-- the number put together from a scalar value's bytes is that value, whatever follows them
+pub decoded-encoded : (U c : ℕ) (rest : List ℕ) → scalar c ≡ true → decoded U (encoded U c ++ rest) ≡ c
+unfolding decoded encoded _⇒_⁏_
+decoded-encoded U c rest good = go (U =? 0)
+  where
+    go : (b : Bool) → (b ⇒ decoded8 ((b ⇒ utf8 c ⁏ utf16 c) ++ rest) ⁏ decoded16 ((b ⇒ utf8 c ⁏ utf16 c) ++ rest)) ≡ c
+    go true = decoded-utf8 c rest (scalar-top c good)
+    go false = decoded-utf16 c rest good

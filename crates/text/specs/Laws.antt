@@ -1,0 +1,26 @@
+-- Laws of a branch on `!r` and of a list's first elements. Assumes nothing.
+use Prim.Native.Nat.{ℕ, suc, _<_}
+use native.Mathlib.Omega.{arith}
+use mathlib.Core.Path.{_≡_, sym, ap}
+use mathlib.Core.Bool.{Bool, true, false, not}
+use mathlib.Core.List.{List, _∷_}
+use lib.ListN.{length, take, drop, getD, length-drop}
+use lib.Seq.{drop-cons, take-all}
+
+-- a condition that a function decided: r is its answer, and which way a branch on `!r` went is known
+pub told-yes : (r b : Bool) → r ≡ b → not r ≡ false → b ≡ true
+told-yes true b p h = sym p
+told-yes false b p h = let z : _≡_ {A = ℕ} 0 1 = cc in absurd (omega arith)
+
+pub told-no : (r b : Bool) → r ≡ b → not r ≡ true → b ≡ true → ⊥
+told-no true b p h k = let z : _≡_ {A = ℕ} 0 1 = cc in omega arith
+told-no false b p h k = let z : _≡_ {A = ℕ} 0 1 = cc in omega arith
+
+-- the first elements, one by one
+pub took : {A : Type 0} (d : A) (s : List A) (i n : ℕ) (x : List A) → i < length s → x ≡ take n (drop (suc i) s)
+    → getD s i d ∷ x ≡ take (suc n) (drop i s)
+took d s i n x h e = rw (drop-cons s i d h) (ap (λ l. getD s i d ∷ l) e)
+
+-- what is cut off behind a, all of it
+pub all-behind : {A : Type 0} (s : List A) (a : ℕ) → take (length s) (drop a s) ≡ drop a s
+all-behind s a = take-all (length s) (drop a s) (simp length-drop (omega arith))

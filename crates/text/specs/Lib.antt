@@ -1,0 +1,11 @@
+pub mod Unicode
+pub mod Laws
+pub mod Begins
+pub mod Encoding
+pub mod Finder
+pub mod Walk
+pub mod Strings
+pub mod Boundary
+pub mod Steps
+pub mod Eight
+pub mod Sixteen

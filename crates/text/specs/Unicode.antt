@@ -1,0 +1,106 @@
+-- Characters and strings, as the Unicode Standard has them: the scalar values, their two encodings, and what a place in a list of
+-- bytes begins with. U is a unit's bit: 0 is UTF-8, anything else UTF-16 big-endian. All of it is total. Assumes nothing.
+use Prim.Native.Nat.{ℕ, zero, suc, _+_, _-_, _*_, _/_, _%_}
+use mathlib.Core.Path.{_≡_}
+use mathlib.Core.Bool.{Bool, true, false}
+use mathlib.Core.List.{List, [], _∷_, _++_}
+use lib.ListN.{length, drop}
+use Rattle.laws.specs.Rows.{_⇒_⁏_, _or_, _and_, _<?_, _=?_}
+use Rattle.octets.specs.Be.{u8At, u16At, be16}
+
+-- ---- a character's value, and its bytes
+
+-- a Unicode scalar value: up to 10FFFF, but for the surrogates D800 to DFFF
+unfoldable pub scalar : ℕ → Bool
+scalar c = c <? 55296 or 57343 <? c and c <? 1114112
+
+-- below 80 one byte; below 800 two, 110xxxxx 10xxxxxx; below 10000 three, 1110xxxx and two of 10xxxxxx; else four, 11110xxx and
+-- three of 10xxxxxx
+unfoldable pub utf8 : ℕ → List ℕ
+utf8 c =
+    c <? 128 ⇒ c ∷ []
+    ⁏ c <? 2048 ⇒ (192 + c / 64) ∷ (128 + c % 64) ∷ []
+    ⁏ c <? 65536 ⇒ (224 + c / 4096) ∷ (128 + c / 64 % 64) ∷ (128 + c % 64) ∷ []
+    ⁏ (240 + c / 262144) ∷ (128 + c / 4096 % 64) ∷ (128 + c / 64 % 64) ∷ (128 + c % 64) ∷ []
+
+-- below 10000 one number of 16 bits; else the two halves of c less 10000, behind a high surrogate's D800 and a low one's DC00
+unfoldable pub utf16 : ℕ → List ℕ
+utf16 c = c <? 65536 ⇒ be16 c ⁏ be16 (55296 + (c - 65536) / 1024) ++ be16 (56320 + (c - 65536) % 1024)
+
+unfoldable pub encoded : (U c : ℕ) → List ℕ
+encoded U c = U =? 0 ⇒ utf8 c ⁏ utf16 c
+
+-- ---- the character that a list of bytes begins with
+
+-- whether the first list is a prefix of the second
+unfoldable pub begins : List ℕ → List ℕ → Bool
+begins [] s = true
+begins (a ∷ x) [] = false
+begins (a ∷ x) (b ∷ s) = a =? b and begins x s
+
+-- the one number whose encoding s can begin with, by the lead byte (below 80, E0, F0) or by a high surrogate (D800 to DBFF) in
+-- front. It means nothing where s begins with no encoding: `character` looks
+unfoldable pub decoded8 : List ℕ → ℕ
+decoded8 s =
+    u8At s 0 <? 128 ⇒ u8At s 0
+    ⁏ u8At s 0 <? 224 ⇒ (u8At s 0 - 192) * 64 + (u8At s 1 - 128)
+    ⁏ u8At s 0 <? 240 ⇒ (u8At s 0 - 224) * 4096 + (u8At s 1 - 128) * 64 + (u8At s 2 - 128)
+    ⁏ (u8At s 0 - 240) * 262144 + (u8At s 1 - 128) * 4096 + (u8At s 2 - 128) * 64 + (u8At s 3 - 128)
+
+unfoldable pub decoded16 : List ℕ → ℕ
+decoded16 s =
+    u16At s 0 <? 55296 ⇒ u16At s 0
+    ⁏ 56319 <? u16At s 0 ⇒ u16At s 0
+    ⁏ 65536 + (u16At s 0 - 55296) * 1024 + (u16At s 2 - 56320)
+
+unfoldable pub decoded : (U : ℕ) → List ℕ → ℕ
+decoded U s = U =? 0 ⇒ decoded8 s ⁏ decoded16 s
+
+-- how many bytes the well-formed character has that s begins with; 0 where s begins with none
+unfoldable pub character : (U : ℕ) → List ℕ → ℕ
+character U s = scalar (decoded U s) and begins (encoded U (decoded U s)) s ⇒ length (encoded U (decoded U s)) ⁏ 0
+
+-- ---- strings
+
+-- the bytes of the characters cs, one after the other
+unfoldable pub encodings : (U : ℕ) → List ℕ → List ℕ
+encodings U [] = []
+encodings U (c ∷ cs) = encoded U c ++ encodings U cs
+
+-- whether all of them are scalar values
+unfoldable pub scalars : List ℕ → Bool
+scalars [] = true
+scalars (c ∷ cs) = scalar c and scalars cs
+
+-- well-formed: the encodings of scalar values, one after the other
+pub record WellFormed (U : ℕ) (s : List ℕ) : Type 0 where
+  pub values : List ℕ
+  pub good : scalars values ≡ true
+  pub same : s ≡ encodings U values
+
+-- the same, found out: n characters at most, one after the other. A character has a byte at least, so as many as there are bytes
+-- are all
+unfoldable pub wellWithin : (n U : ℕ) → List ℕ → Bool
+wellWithin zero U s = true
+wellWithin (suc n) U s =
+    length s =? 0 ⇒ true
+    ⁏ character U s =? 0 ⇒ false
+    ⁏ wellWithin n U (drop (character U s) s)
+
+unfoldable pub wellFormed : (U : ℕ) → List ℕ → Bool
+wellFormed U s = wellWithin (length s) U s
+
+-- how many bytes from the front are whole characters within the limit, found out in the same way
+unfoldable pub reachWithin : (n U : ℕ) → List ℕ → ℕ → ℕ
+reachWithin zero U s limit = 0
+reachWithin (suc n) U s limit =
+    character U s =? 0 ⇒ 0
+    ⁏ limit <? character U s ⇒ 0
+    ⁏ character U s + reachWithin n U (drop (character U s) s) (limit - character U s)
+
+unfoldable pub reach : (U : ℕ) → List ℕ → ℕ → ℕ
+reach U s limit = reachWithin (length s) U s limit
+
+-- the last place from `at` on that whole characters lead to, within the limit
+unfoldable pub boundary : (U : ℕ) → List ℕ → (at limit : ℕ) → ℕ
+boundary U s at limit = at + reach U (drop at s) (limit - at)

@@ -1,0 +1,192 @@
+// Characters of a string, found at any place of any bytes: u is 0 for UTF-8, and anything else for UTF-16 big-endian.
+ghost use mathlib.Core.Path.{_≡_};
+ghost use Prim.Native.Nat.{_-_};
+ghost use lib.ListN.{drop};
+ghost use Rattle.text.specs.Unicode.{scalar, decoded8, character, wellFormed, boundary};
+ghost use Rattle.text.specs.Steps.{sizeOf, leastOf, continues};
+
+// The length of the well-formed character at a place; 0 where there is none.
+pub fn character(u: usize, s: &[u8], at: usize) -> usize
+    ensures { λ r. ⌜ r ≡ character u (drop at (now (s .entry))) ⌝ }
+{
+    let rest = octets::cut(s, at, s.len());
+    if u == 0 {
+        return eight(rest);
+    }
+    sixteen(rest)
+}
+
+// Whether all of s is well-formed.
+pub fn well_formed(u: usize, s: &[u8]) -> bool
+    ensures { λ r. ⌜ r ≡ wellFormed u (now (s .entry)) ⌝ }
+{
+    let mut i = 0;
+    while i < s.len() {
+        let k = character(u, s, i);
+        if k == 0 {
+            return false;
+        }
+        i += k;
+    }
+    true
+}
+
+// The last place within the limit that whole characters lead to from `at` on.
+pub fn boundary(u: usize, s: &[u8], at: usize, limit: usize) -> usize
+    ensures { λ r. ⌜ r ≡ boundary u (now (s .entry)) at limit ⌝ }
+{
+    let mut e = at;
+    while e < limit {
+        let k = character(u, s, e);
+        if k == 0 {
+            return e;
+        }
+        if limit - e < k {
+            return e;
+        }
+        e += k;
+    }
+    e
+}
+
+// A UTF-8 character in front: as long as its lead byte says, of continuation bytes behind it, not overlong, a scalar value.
+fn eight(s: &[u8]) -> usize
+    ensures { λ r. ⌜ r ≡ character 0 (now (s .entry)) ⌝ }
+{
+    let n = size(octets::byte(s, 0));
+    if n == 0 {
+        return 0;
+    }
+    if s.len() < n {
+        return 0;
+    }
+    if !continued(s, n) {
+        return 0;
+    }
+    let c = number(s);
+    if c < least(n) {
+        return 0;
+    }
+    if !is_scalar(c) {
+        return 0;
+    }
+    n
+}
+
+// How many bytes a lead byte announces; 0 where it is none.
+fn size(lead: usize) -> usize
+    ensures { λ r. ⌜ r ≡ sizeOf lead ⌝ }
+{
+    if lead < 128 {
+        return 1;
+    }
+    if lead < 192 {
+        return 0;
+    }
+    if lead < 224 {
+        return 2;
+    }
+    if lead < 240 {
+        return 3;
+    }
+    4
+}
+
+// The least number that takes n bytes.
+fn least(n: usize) -> usize
+    ensures { λ r. ⌜ r ≡ leastOf n ⌝ }
+{
+    if n < 2 {
+        return 0;
+    }
+    if n < 3 {
+        return 128;
+    }
+    if n < 4 {
+        return 2048;
+    }
+    65536
+}
+
+// Whether the bytes behind the first, up to n, are continuation bytes.
+fn continued(s: &[u8], n: usize) -> bool
+    ensures { λ r. ⌜ r ≡ continues (now (s .entry)) 1 (n - 1) ⌝ }
+{
+    let mut i = 1;
+    while i < n {
+        let b = octets::byte(s, i);
+        if b < 128 {
+            return false;
+        }
+        if 191 < b {
+            return false;
+        }
+        i += 1;
+    }
+    true
+}
+
+// The number that the bytes in front hold.
+fn number(s: &[u8]) -> usize
+    ensures { λ r. ⌜ r ≡ decoded8 (now (s .entry)) ⌝ }
+{
+    let lead = octets::byte(s, 0);
+    let b = octets::less(octets::byte(s, 1), 128);
+    let c = octets::less(octets::byte(s, 2), 128);
+    let d = octets::less(octets::byte(s, 3), 128);
+    if lead < 128 {
+        return lead;
+    }
+    if lead < 224 {
+        return octets::less(lead, 192) * 64 + b;
+    }
+    if lead < 240 {
+        return (lead - 224) * 4096 + b * 64 + c;
+    }
+    (lead - 240) * 262144 + b * 4096 + c * 64 + d
+}
+
+fn is_scalar(c: usize) -> bool
+    ensures { λ r. ⌜ r ≡ scalar c ⌝ }
+{
+    if c < 55296 {
+        return true;
+    }
+    if c < 57344 {
+        return false;
+    }
+    if c < 1114112 {
+        return true;
+    }
+    false
+}
+
+// A UTF-16 character in front: a number that is no surrogate, or a high surrogate and a low one.
+fn sixteen(s: &[u8]) -> usize
+    ensures { λ r. ⌜ r ≡ character 1 (now (s .entry)) ⌝ }
+{
+    let a = octets::number16(s, 0);
+    let b = octets::number16(s, 2);
+    if s.len() < 2 {
+        return 0;
+    }
+    if a < 55296 {
+        return 2;
+    }
+    if 57343 < a {
+        return 2;
+    }
+    if 56319 < a {
+        return 0;
+    }
+    if s.len() < 4 {
+        return 0;
+    }
+    if b < 56320 {
+        return 0;
+    }
+    if 57343 < b {
+        return 0;
+    }
+    4
+}
