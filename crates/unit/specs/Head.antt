@@ -1,9 +1,11 @@
 -- The bytes of a unit's header: the same table, written from left to right. A number that does not fit its field goes in by its
 -- low bits. Assumes nothing.
-use Prim.Native.Nat.{ℕ, _+_, _*_, _%_}
+use Prim.Native.Nat.{ℕ, _+_, _*_, _%_, _≤_}
+use native.Mathlib.Omega.{arith}
+use lib.ListN.{length}
 use mathlib.Core.Path.{_≡_, refl, sym}
 use mathlib.Core.List.{List, [], _∷_, _++_}
-use Rattle.laws.specs.Rows.{_⇒_⁏_, _=?_, yes, no, eq, ne}
+use Rattle.laws.specs.Rows.{_⇒_⁏_, _=?_, each, yes, no, eq, ne}
 use Rattle.octets.specs.Be.{be16, be24}
 use Rattle.unit.specs.declared.Whole as W
 use Rattle.unit.specs.declared.Part as P
@@ -50,3 +52,13 @@ string-head w h = sym (yes _ _ (eq _ _ h) refl)
 pub modifiers-head : (w : P.Part) → (w .kind ≡ 2 → ⊥) → partHead w ≡ modifiersHead w
 unfolding partHead
 modifiers-head w h = sym (no _ _ (ne _ _ h) refl)
+
+-- no header is longer than TYPE 2's
+pub head-short : (x : Unit) → length (headOf x) ≤ 10
+unfolding partHead
+head-short End = omega arith
+head-short (Skipped t) = omega arith
+head-short (Refused r) = omega arith
+head-short (Whole w) = omega arith
+head-short (Part w) = each (λ (h : List ℕ). length h ≤ 10) _ _ _ (λ q. omega arith) (λ q. omega arith)
+head-short (Description w) = omega arith

@@ -1,0 +1,3 @@
+pub mod Times
+pub mod Marks
+pub mod Until
