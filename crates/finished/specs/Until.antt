@@ -7,7 +7,7 @@ use mathlib.Core.List.{List, [], _∷_, _++_}
 use mathlib.Core.Bool.{Bool, true, false}
 use lib.ListN.{length, drop, length-append}
 use lib.Seq.{drop-at, drop-append-le}
-use Rattle.laws.specs.Rows.{_⇒_⁏_, _or_, each, yes, eq, eq-of}
+use Rattle.laws.specs.Rows.{each, yes, eq, eq-of, or-of}
 use Rattle.paper.specs.Limits.{finishedMost}
 use Rattle.finished.specs.Times.{timesOf, among, late, markedRow, markedUsed}
 use Rattle.finished.specs.Marks.{rowAfter, usedAfter, marked-times, marked-all}
@@ -23,11 +23,6 @@ unfolding among
 among-drop zero xs time h = h
 among-drop (suc n) [] time h = h
 among-drop (suc n) (x ∷ xs) time h = each (λ (b : Bool). b ≡ true) _ _ _ (λ e. refl) (λ e. among-drop n xs time h)
-
-or-of : (a b : Bool) → (a or b) ≡ true → (a ≡ true) ⊎ (b ≡ true)
-unfolding _⇒_⁏_
-or-of true b h = inl refl
-or-of false b h = inr h
 
 among-append : (xs ys : List ℕ) (time : ℕ) → among (xs ++ ys) time ≡ true → (among xs time ≡ true) ⊎ (among ys time ≡ true)
 unfolding among

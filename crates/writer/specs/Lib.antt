@@ -4,3 +4,6 @@ pub mod Find
 pub mod Write
 pub mod Returns
 pub mod Cuts
+pub mod Cutting
+pub mod Payloads
+pub mod Cases

@@ -58,6 +58,26 @@ module _ (size : List ℕ → ℕ) (within : (s : List ℕ) → size s ≤ lengt
             ∙ ap (λ (r : List ℕ). take (size s) s ++ r) (ih (drop (size s) s) (simp length-drop (omega arith)) (keeps s p))
             ∙ take-append-drop (size s) s
 
+  -- where there is a part, something is cut off
+  left : (s : List ℕ) → 0 < length (cuts size s) → 0 < size s
+  left s h = go (decLt 0 (size s))
+    where
+      go : Dec (0 < size s) → 0 < size s
+      go (yes l) = l
+      go (no l) = absurd (omega (arith, ap (length {A = List ℕ}) (cuts-end s (omega arith))))
+
+  -- what holds of each part that can be cut off holds of all the parts
+  module _ (P : List ℕ → Type 0) (keeps : (s : List ℕ) → P s → P (drop (size s) s)) (Q : List ℕ → Type 0)
+      (first : (s : List ℕ) → P s → 0 < size s → Q (take (size s) s)) where
+    pub cuts-each : (i : ℕ) (s : List ℕ) → P s → i < length (cuts size s) → Q (getD (cuts size s) i [])
+    cuts-each zero s p h =
+        let n = left s h in
+        rw (cuts-turn s (λ z. omega arith)) (first s p n)
+    cuts-each (suc i) s p h =
+        let n = left s (omega arith) in
+        let t = cuts-turn s (λ z. omega arith) in
+        rw t (cuts-each i (drop (size s) s) (keeps s p) (omega (arith, ap (length {A = List ℕ}) t)))
+
 -- ---- blocks of k bytes: how many, and which bytes the one numbered j from 0 has
 module _ (k : ℕ) (some : 0 < k) where
   least : (s : List ℕ) → min k (length s) ≤ length s

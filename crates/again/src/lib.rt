@@ -1,0 +1,1 @@
+// No code: what the writer cuts is put together again.
