@@ -2,7 +2,6 @@
 use paper::limits::FINISHED_MOST;
 ghost use mathlib.Core.Path.{_≡_};
 ghost use Prim.Native.Nat.{min};
-ghost use lib.ListN.{set};
 ghost use Rattle.paper.specs.Limits.{finishedMost};
 ghost use Rattle.finished.specs.Times.{late, movedRow, markedRow, markedUsed};
 
@@ -37,15 +36,6 @@ pub fn is_late(row: &[u32], used: usize, time: u32) -> bool
     false
 }
 
-// Stores the time; past the end, nothing.
-fn store(row: &mut [u32], at: usize, time: u32)
-    ensures { λ _. ⌜ now (row .exit) ≡ set (now (row .entry)) at time ⌝ }
-{
-    if at < row.len() {
-        row[at] = time;
-    }
-}
-
 // The oldest goes, the others move down, and the time is the last.
 fn move_down(row: &mut [u32], time: u32)
     ensures { λ _. ⌜ now (row .exit) ≡ movedRow (now (row .entry)) time ⌝ }
@@ -68,7 +58,7 @@ pub fn mark(row: &mut [u32], used: usize, time: u32) -> usize
     ensures { λ r. ⌜ (now (row .exit) ≡ markedRow (now (row .entry)) used time) × (r ≡ markedUsed used) ⌝ }
 {
     if used < FINISHED_MOST {
-        store(row, used, time);
+        octets::put_word(row, used, time);
         return used + 1;
     }
     move_down(row, time);

@@ -1,6 +1,7 @@
-// Bytes of lent slices, read and written totally: past the end a byte is 0, a part is shorter, and a store does nothing.
+// Bytes and numbers of lent slices, read and written totally: past the end a byte is 0, a part is shorter, and a store does nothing.
 ghost use mathlib.Core.Path.{_≡_};
 ghost use Prim.Native.Nat.{_<_, _-_, min};
+ghost use lib.ListN.{getD, set};
 ghost use lib.Seq.{sets};
 ghost use Rattle.laws.specs.Region.{part};
 ghost use Rattle.octets.specs.Be.{u8At, u16At, u24At, u32At};
@@ -73,5 +74,21 @@ pub fn put(dst: &mut [u8], at: usize, src: &[u8])
     while i < n {
         dst[at + i] = src[i];
         i += 1;
+    }
+}
+
+// The number at i of a row, and 0 past the end.
+pub fn word(row: &[u32], i: usize) -> u32
+    ensures { λ r. ⌜ r ≡ getD (now (row .entry)) i 0 ⌝ }
+{
+    if i < row.len() { row[i] } else { 0 }
+}
+
+// Stores a number in a row; past the end, nothing.
+pub fn put_word(row: &mut [u32], i: usize, v: u32)
+    ensures { λ _. ⌜ now (row .exit) ≡ set (now (row .entry)) i v ⌝ }
+{
+    if i < row.len() {
+        row[i] = v;
     }
 }

@@ -1,3 +1,4 @@
 pub mod Layout
 pub mod Head
 pub mod Again
+pub mod Reads

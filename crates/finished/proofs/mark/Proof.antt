@@ -15,7 +15,7 @@ mark-spec =
     (λ c κs. search needs)
     (λ c. search needs)
     (λ c. search needs)
-    (λ c. (yes _ _ (lt _ _ (omega arith)) (c .before .before .store .ensures), yes _ _ (lt _ _ (omega arith)) refl))
+    (λ c. (yes _ _ (lt _ _ (omega arith)) (c .before .before .put-word .ensures), yes _ _ (lt _ _ (omega arith)) refl))
     (λ c κs. search needs)
     (λ c. search needs)
     (λ c. (no _ _ (ge _ _ (omega arith)) (c .before .before .move-down .ensures), no _ _ (ge _ _ (omega arith)) refl)))

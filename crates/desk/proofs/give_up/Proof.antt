@@ -1,0 +1,18 @@
+-- `desk::give_up` meets its contract: an open sample is freed, and there is none to free else. Assumes nothing.
+use borrow.Author.Needs.{needs}
+use denote.Ref.{now}
+use Rattle.desk.specs.Desk.{own}
+use Rattle.desk.specs.Takes.{given-freed, given-none}
+use Rattle.desk.proofs.give_up.Statement.{statement}
+use Rattle.desk.proofs.give_up.Tie as tie
+
+pub give-up-spec : {M : Type 1} → statement M
+give-up-spec =
+    tie.close
+    (tie.spec
+    (λ c κs. search needs)
+    (λ c κs. search needs)
+    (λ c. search needs)
+    (λ c. search needs)
+    (λ c. λ store out. let a = c .before .before .before .before .before .before .before .before .before .before .before .args in let s = own (a .place) (now (a .row)) (now (a .marks)) store out in given-freed s (a .time) (c .before .before .before .before .before .before .before .before .if1 .taken) _ (c .closed .ensures) _ _ (c .before .before .before .before .before .finish .ensures .0) (c .before .before .before .before .before .finish .ensures .1))
+    (λ c. λ store out. let a = c .before .before .before .args in let s = own (a .place) (now (a .row)) (now (a .marks)) store out in given-none s (a .time) (c .if1 .left)))

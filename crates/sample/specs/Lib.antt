@@ -1,0 +1,15 @@
+pub mod Same
+pub mod Sums
+pub mod Bits
+pub mod Stores
+pub mod Order
+pub mod Place
+pub mod Turns
+pub mod Kept
+pub mod Made
+pub mod Repeat
+pub mod Told
+pub mod Arrival
+pub mod Missing
+pub mod Filled
+pub mod Sound

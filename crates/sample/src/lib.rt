@@ -1,0 +1,406 @@
+// The place of one open sample, and what document 01's 'Joining' decides about it, on values.
+use paper::limits::PARTS_MOST;
+use paper::limits::SAMPLE_MOST;
+use unit::Part;
+ghost use mathlib.Core.Path.{_≡_};
+ghost use Prim.Native.Nat.{_+_, _≤_, min};
+ghost use lib.ListN.{length, take, getD};
+ghost use lib.Seq.{sets};
+ghost use Rattle.laws.specs.Rows.{_⇒_⁏_, _and_, _<?_, _=?_};
+ghost use Rattle.laws.specs.Region.{part};
+ghost use Rattle.paper.specs.Limits.{sampleMost, partsMost};
+ghost use Rattle.joining.specs.Joining.{together, stringOf, ordered, sound};
+ghost use Rattle.sample.specs.Same.{same};
+ghost use Rattle.sample.specs.Order.{follows};
+ghost use Rattle.sample.specs.Place.{has, piecesOf, closed, opened, alike, agrees, stands, repeats, oversize, telling, kept, missing};
+
+// An open sample. U, SIDX and SLEN are those of its first TYPE 2 part, once `told`; bit THIS - 1 of `mask`, and place THIS - 1 of
+// `kinds`, `starts` and `lens`, are part THIS's; the first `filled` of the bytes are in use.
+#[repr(C)]
+pub struct Place {
+    pub used: bool,
+    pub desk: usize,
+    pub time: u32,
+    pub total: usize,
+    pub sdur: usize,
+    pub told: bool,
+    pub u: usize,
+    pub sidx: usize,
+    pub slen: usize,
+    pub mask: u32,
+    pub filled: usize,
+    pub kinds: [usize; PARTS_MOST],
+    pub starts: [usize; PARTS_MOST],
+    pub lens: [usize; PARTS_MOST],
+    pub bytes: [u8; SAMPLE_MOST],
+}
+
+// How long a sample's string is, and all of it.
+struct Lengths {
+    string: usize,
+    sample: usize,
+}
+
+// The closed record.
+pub fn closed() -> Place
+    ensures { λ r. ⌜ r ≡ closed ⌝ }
+{
+    Place {
+        used: false,
+        desk: 0,
+        time: 0,
+        total: 0,
+        sdur: 0,
+        told: false,
+        u: 0,
+        sidx: 0,
+        slen: 0,
+        mask: 0,
+        filled: 0,
+        kinds: [0; PARTS_MOST],
+        starts: [0; PARTS_MOST],
+        lens: [0; PARTS_MOST],
+        bytes: [0; SAMPLE_MOST],
+    }
+}
+
+// The sample that part x opens, nothing kept yet.
+pub fn opened(desk: usize, time: u32, x: Part) -> Place
+    ensures { λ r. ⌜ r ≡ opened desk time x ⌝ }
+{
+    let mut p = closed();
+    p.used = true;
+    p.desk = desk;
+    p.time = time;
+    p.total = x.total;
+    p.sdur = x.sdur;
+    p
+}
+
+// Whether part `this` is kept.
+pub fn has(p: Place, this: usize) -> bool
+    ensures { λ r. ⌜ r ≡ has p this ⌝ }
+{
+    if this == 0 {
+        return false;
+    }
+    if PARTS_MOST < this {
+        return false;
+    }
+    (p.mask >> (this - 1)) % 2 == 1
+}
+
+// Whether a TYPE 2 part says what an earlier one told.
+fn alike(p: Place, x: Part) -> bool
+    ensures { λ r. ⌜ r ≡ alike p x ⌝ }
+{
+    if p.u != x.u {
+        return false;
+    }
+    if p.sidx != x.sidx {
+        return false;
+    }
+    p.slen == x.slen
+}
+
+// Whether the part agrees with the sample.
+pub fn agrees(p: Place, x: Part) -> bool
+    ensures { λ r. ⌜ r ≡ agrees p x ⌝ }
+{
+    if p.total != x.total {
+        return false;
+    }
+    if p.sdur != x.sdur {
+        return false;
+    }
+    if x.kind != 2 {
+        return true;
+    }
+    if p.told {
+        return alike(p, x);
+    }
+    true
+}
+
+// Whether two lists of bytes are one.
+fn equal(a: &[u8], b: &[u8]) -> bool
+    ensures { λ r. ⌜ r ≡ same (now (a .entry)) (now (b .entry)) ⌝ }
+{
+    let n = a.len();
+    if n != b.len() {
+        return false;
+    }
+    let mut i = 0;
+    while i < n {
+        if a[i] != b[i] {
+            return false;
+        }
+        i += 1;
+    }
+    true
+}
+
+// The number at k, 0 past the end.
+fn at(xs: &[usize], k: usize) -> usize
+    ensures { λ r. ⌜ r ≡ getD (now (xs .entry)) k 0 ⌝ }
+{
+    if k < xs.len() { xs[k] } else { 0 }
+}
+
+// The bytes of a part: at most all that a place has.
+fn data_at(bytes: &[u8; SAMPLE_MOST], start: usize, len: usize) -> &[u8]
+    ensures { λ r. ⌜ (now r ≡ part start len (now (bytes .entry))) × (length (now r) ≤ sampleMost) ⌝ }
+{
+    octets::cut(bytes, start, len)
+}
+
+// Whether part `this` is kept, with that TYPE and data.
+fn stands(p: Place, this: usize, kind: usize, d: &[u8]) -> bool
+    ensures { λ r. ⌜ r ≡ stands p this kind (now (d .entry)) ⌝ }
+{
+    let kinds = p.kinds;
+    let starts = p.starts;
+    let lens = p.lens;
+    let bytes = p.bytes;
+    let k = octets::less(this, 1);
+    if has(p, this) {
+        if at(&kinds, k) == kind {
+            return equal(data_at(&bytes, at(&starts, k), at(&lens, k)), d);
+        }
+    }
+    false
+}
+
+// Whether the part, with the data d, is a repeat.
+pub fn repeats(p: Place, x: Part, d: &[u8]) -> bool
+    ensures { λ r. ⌜ r ≡ repeats p x (now (d .entry)) ⌝ }
+{
+    if stands(p, x.this, x.kind, d) {
+        return agrees(p, x);
+    }
+    false
+}
+
+// Whether a is below b, where that counts.
+fn below(counts: bool, a: usize, b: usize) -> bool
+    ensures { λ r. ⌜ r ≡ (counts and a <? b) ⌝ }
+{
+    if counts {
+        return a < b;
+    }
+    false
+}
+
+// Refusal 5, for the part with n bytes of data.
+pub fn oversize(p: Place, x: Part, n: usize) -> bool
+    ensures { λ r. ⌜ r ≡ oversize p x n ⌝ }
+{
+    if below(x.kind == 2, SAMPLE_MOST, x.slen) {
+        return true;
+    }
+    if SAMPLE_MOST < p.filled {
+        return true;
+    }
+    if SAMPLE_MOST < n {
+        return true;
+    }
+    let sum = p.filled + n;
+    if SAMPLE_MOST < sum {
+        return true;
+    }
+    if below(x.kind == 2, x.slen, sum) {
+        return true;
+    }
+    below(p.told, p.slen, sum)
+}
+
+// A first TYPE 2 part tells U, SIDX and SLEN.
+fn tell(p: Place, x: Part) -> Place
+    ensures { λ r. ⌜ r ≡ telling p x ⌝ }
+{
+    if p.told {
+        return p;
+    }
+    if x.kind == 2 {
+        let mut q = p;
+        q.told = true;
+        q.u = x.u;
+        q.sidx = x.sidx;
+        q.slen = x.slen;
+        return q;
+    }
+    p
+}
+
+// a + b, and 1,024 where that is more.
+fn grown(a: usize, b: usize) -> usize
+    ensures { λ r. ⌜ r ≡ min (a + b) sampleMost ⌝ }
+{
+    if SAMPLE_MOST < a {
+        return SAMPLE_MOST;
+    }
+    if SAMPLE_MOST - a < b {
+        return SAMPLE_MOST;
+    }
+    a + b
+}
+
+// The part, with the data d, is kept.
+pub fn keep(p: Place, x: Part, d: &[u8]) -> Place
+    ensures { λ r. ⌜ r ≡ kept p x (now (d .entry)) ⌝ }
+{
+    let this = x.this;
+    if this == 0 {
+        return p;
+    }
+    if PARTS_MOST < this {
+        return p;
+    }
+    let k = this - 1;
+    let at = p.filled;
+    let mut bytes = p.bytes;
+    octets::put(&mut bytes, at, d);
+    let mut q = p;
+    q.mask = p.mask | 1 << k;
+    q.filled = grown(at, d.len());
+    q.kinds[k] = x.kind;
+    q.starts[k] = at;
+    q.lens[k] = d.len();
+    q.bytes = bytes;
+    tell(q, x)
+}
+
+// How many parts are still missing.
+pub fn missing(p: Place) -> usize
+    ensures { λ r. ⌜ r ≡ missing p ⌝ }
+{
+    octets::less(p.total, u32::count_ones(p.mask) as usize)
+}
+
+// Whether a part of that TYPE may stand behind one of the last TYPE; before the first stands 0.
+fn follows(last: usize, kind: usize) -> bool
+    ensures { λ r. ⌜ r ≡ follows last kind ⌝ }
+{
+    if last == 0 {
+        return kind == 2;
+    }
+    if last == 2 {
+        if kind == 2 {
+            return true;
+        }
+        return kind == 3;
+    }
+    kind == 4
+}
+
+// Whether the TYPEs are one or more 2, then nothing, or one 3 and any number of 4.
+fn is_ordered(kinds: &[usize]) -> bool
+    ensures { λ r. ⌜ r ≡ ordered (now (kinds .entry)) ⌝ }
+{
+    let mut last = 0;
+    let mut i = 0;
+    while i < kinds.len() {
+        let kind = kinds[i];
+        if follows(last, kind) {
+            last = kind;
+        } else {
+            return false;
+        }
+        i += 1;
+    }
+    last != 0
+}
+
+// The first n numbers, or as many as there are.
+fn front(s: &[usize], n: usize) -> &[usize]
+    ensures { λ r. ⌜ now r ≡ take n (now (s .entry)) ⌝ }
+{
+    let m = octets::least(s.len(), n);
+    &s[0..m]
+}
+
+// Whether the TYPEs of the first n parts are in order; a place has fifteen.
+fn in_order(kinds: &[usize; PARTS_MOST], n: usize) -> bool
+    ensures { λ r. ⌜ (r ≡ ordered (take n (now (kinds .entry)))) × (length (now (kinds .entry)) ≡ partsMost) ⌝ }
+{
+    is_ordered(front(kinds, n))
+}
+
+// How many of a part's n bytes are the string's.
+fn of_string(kind: usize, n: usize) -> usize
+    ensures { λ r. ⌜ (r ≡ (kind =? 2 ⇒ n ⁏ 0)) × (r ≤ n) ⌝ }
+{
+    if kind == 2 {
+        return n;
+    }
+    0
+}
+
+// How long the parts in THIS order are, put together.
+fn measure(p: Place) -> Lengths
+    ensures { λ r. ⌜ (r .string ≡ length (stringOf (piecesOf p))) × (r .sample ≡ length (together (piecesOf p))) ⌝ }
+{
+    let n = octets::least(p.total, PARTS_MOST);
+    let kinds = p.kinds;
+    let starts = p.starts;
+    let lens = p.lens;
+    let bytes = p.bytes;
+    let mut string = 0;
+    let mut sample = 0;
+    let mut k = 0;
+    while k < n {
+        let start = starts[k];
+        let len = lens[k];
+        let many = data_at(&bytes, start, len).len();
+        string += of_string(kinds[k], many);
+        sample += many;
+        k += 1;
+    }
+    Lengths { string, sample }
+}
+
+// How long the string is.
+pub fn string_len(p: Place) -> usize
+    ensures { λ r. ⌜ r ≡ length (stringOf (piecesOf p)) ⌝ }
+{
+    measure(p).string
+}
+
+// How long the sample is.
+pub fn sample_len(p: Place) -> usize
+    ensures { λ r. ⌜ r ≡ length (together (piecesOf p)) ⌝ }
+{
+    measure(p).sample
+}
+
+// Whether the complete sample is joined, else it is spoiled.
+pub fn is_sound(p: Place) -> bool
+    ensures { λ r. ⌜ r ≡ sound (p .slen) (piecesOf p) ⌝ }
+{
+    let n = octets::least(p.total, PARTS_MOST);
+    let kinds = p.kinds;
+    if in_order(&kinds, n) {
+        return sample_len(p) == p.slen;
+    }
+    false
+}
+
+// The parts in THIS order, to the front of the output; what lies behind them stays.
+pub fn put_together(p: Place, out: &mut [u8])
+    ensures { λ _. ⌜ now (out .exit) ≡ sets (now (out .entry)) 0 (together (piecesOf p)) ⌝ }
+{
+    let n = octets::least(p.total, PARTS_MOST);
+    let starts = p.starts;
+    let lens = p.lens;
+    let bytes = p.bytes;
+    let mut at = 0;
+    let mut k = 0;
+    while k < n {
+        let start = starts[k];
+        let len = lens[k];
+        let data = data_at(&bytes, start, len);
+        octets::put(out, at, data);
+        at += data.len();
+        k += 1;
+    }
+}

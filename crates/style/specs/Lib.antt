@@ -1,0 +1,9 @@
+pub mod Record
+pub mod Book
+pub mod Store
+pub mod Shown
+pub mod Turns
+pub mod Puts
+pub mod Slots
+pub mod Window
+pub mod Rising
