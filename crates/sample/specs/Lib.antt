@@ -1,4 +1,3 @@
-pub mod Same
 pub mod Sums
 pub mod Bits
 pub mod Stores

@@ -10,7 +10,6 @@ ghost use Rattle.laws.specs.Rows.{_⇒_⁏_, _and_, _<?_, _=?_};
 ghost use Rattle.laws.specs.Region.{part};
 ghost use Rattle.paper.specs.Limits.{sampleMost, partsMost};
 ghost use Rattle.joining.specs.Joining.{together, stringOf, ordered, sound};
-ghost use Rattle.sample.specs.Same.{same};
 ghost use Rattle.sample.specs.Order.{follows};
 ghost use Rattle.sample.specs.Place.{has, piecesOf, closed, opened, alike, agrees, stands, repeats, oversize, telling, kept, missing};
 
@@ -122,24 +121,6 @@ pub fn agrees(p: Place, x: Part) -> bool
     true
 }
 
-// Whether two lists of bytes are one.
-fn equal(a: &[u8], b: &[u8]) -> bool
-    ensures { λ r. ⌜ r ≡ same (now (a .entry)) (now (b .entry)) ⌝ }
-{
-    let n = a.len();
-    if n != b.len() {
-        return false;
-    }
-    let mut i = 0;
-    while i < n {
-        if a[i] != b[i] {
-            return false;
-        }
-        i += 1;
-    }
-    true
-}
-
 // The number at k, 0 past the end.
 fn at(xs: &[usize], k: usize) -> usize
     ensures { λ r. ⌜ r ≡ getD (now (xs .entry)) k 0 ⌝ }
@@ -165,7 +146,7 @@ fn stands(p: Place, this: usize, kind: usize, d: &[u8]) -> bool
     let k = octets::less(this, 1);
     if has(p, this) {
         if at(&kinds, k) == kind {
-            return equal(data_at(&bytes, at(&starts, k), at(&lens, k)), d);
+            return octets::same(data_at(&bytes, at(&starts, k), at(&lens, k)), d);
         }
     }
     false

@@ -2,10 +2,10 @@
 -- then the description and zeros. Assumes nothing.
 use Prim.Native.Nat.{ℕ, _+_, _*_, _%_}
 use mathlib.Core.List.{List, [], _∷_, _++_}
-use mathlib.Core.Bool.{Bool, true, false}
+use mathlib.Core.Bool.{Bool, false}
 use lib.ListN.{length, replicate}
 use lib.Seq.{sets}
-use Rattle.laws.specs.Rows.{_or_, _and_, _<?_, _=?_}
+use Rattle.laws.specs.Rows.{_or_, _<?_}
 use Rattle.laws.specs.Region.{part}
 use Rattle.octets.specs.Be.{u8At, u16At, be16}
 use Rattle.paper.specs.Limits.{recordSize}
@@ -35,10 +35,3 @@ recordOf v d = sets blank 0 (v % 256 ∷ 0 ∷ be16 (length d) ++ d)
 unfoldable pub filled : List ℕ → Bool
 filled [] = false
 filled (x ∷ xs) = 0 <? x or filled xs
-
--- the same bytes, and as many
-unfoldable pub same : List ℕ → List ℕ → Bool
-same [] [] = true
-same [] (y ∷ ys) = false
-same (x ∷ xs) [] = false
-same (x ∷ xs) (y ∷ ys) = x =? y and same xs ys

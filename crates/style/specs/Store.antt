@@ -11,7 +11,8 @@ use Rattle.paper.specs.declared.Refusal.the-variants.{Fields, Size, Conflict}
 use Rattle.paper.specs.declared.Outcome.{Outcome}
 use Rattle.paper.specs.declared.Outcome.the-variants.{Repeat, Described, Refused}
 use Rattle.style.specs.declared.Noted.{Noted}
-use Rattle.style.specs.Record.{recordAt, indexOf, lengthOf, descriptionOf, blank, recordOf, same}
+use Rattle.octets.specs.Same.{same}
+use Rattle.style.specs.Record.{recordAt, indexOf, lengthOf, descriptionOf, blank, recordOf}
 
 -- ---- the window
 -- a minus b, modulo 128

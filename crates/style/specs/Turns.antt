@@ -2,17 +2,17 @@
 use Prim.Native.Nat.{ℕ, suc, _+_, _-_, _*_, _/_, _<_, _≤_}
 use native.Mathlib.Omega.{arith}
 use native.Mathlib.Numerals.{add-one}
-use mathlib.Core.List.{List, [], _∷_}
-use mathlib.Core.Bool.{Bool, true, false}
+use mathlib.Core.List.{List, []}
+use mathlib.Core.Bool.{true, false}
 use mathlib.Core.Path.{_≡_, refl, sym}
 use lib.ListN.{length, getD, drop, drop-of-length-le}
 use lib.Seq.{drop-cons, take-nil}
-use Rattle.laws.specs.Rows.{_⇒_⁏_, _=?_, yes, no, lt, ge, eq, ne}
+use Rattle.laws.specs.Rows.{yes, no, lt, ge, eq, ne}
 use Rattle.paper.specs.Limits.{recordSize, descriptionMost}
 use Rattle.paper.specs.declared.Refusal.the-variants.{Book}
 use Rattle.paper.specs.declared.Outcome.the-variants.{Described}
 use Rattle.style.specs.declared.Checked.the-variants.{Good, Refused}
-use Rattle.style.specs.Record.{recordAt, indexOf, descriptionOf, filled, same}
+use Rattle.style.specs.Record.{recordAt, indexOf, descriptionOf, filled}
 use Rattle.style.specs.Book.{badRecord, checkFrom, entryFrom}
 use Rattle.style.specs.Store.{moved, held, repeated, improper, forgottenAt, forgottenFrom, forgotten, stored, told, left, noted}
 
@@ -33,32 +33,6 @@ module _ (s : List ℕ) (i : ℕ) where
   pub filled-end : length s ≤ i → filled (drop i s) ≡ false
   unfolding filled
   filled-end h = rw (drop-of-length-le s h)
-
--- ---- the same bytes
-module _ (a b : List ℕ) (i : ℕ) (ha : i < length a) (hb : i < length b) where
-  pub same-not : (getD a i 0 ≡ getD b i 0 → ⊥) → same (drop i a) (drop i b) ≡ false
-  unfolding same
-  same-not k = rw (drop-cons a i 0 ha, drop-cons b i 0 hb) (sym (no _ _ (ne _ _ k) refl))
-
-  pub same-next : getD a i 0 ≡ getD b i 0 → same (drop i a) (drop i b) ≡ same (drop (i + 1) a) (drop (i + 1) b)
-  unfolding same
-  same-next k = rw (add-one, drop-cons a i 0 ha, drop-cons b i 0 hb) (sym (yes _ _ (eq _ _ k) refl))
-
-pub same-end : (a b : List ℕ) (i : ℕ) → length a ≤ i → length b ≤ i → same (drop i a) (drop i b) ≡ true
-unfolding same
-same-end a b i ha hb = rw (drop-of-length-le a ha, drop-of-length-le b hb)
-
--- lists of other lengths
-pub same-long : (a b : List ℕ) → (length a ≡ length b → ⊥) → same a b ≡ false
-unfolding same _⇒_⁏_
-same-long [] [] h = absurd (h refl)
-same-long [] (y ∷ ys) h = refl
-same-long (x ∷ xs) [] h = refl
-same-long (x ∷ xs) (y ∷ ys) h = both (x =? y) (same-long xs ys (λ e. h (omega arith)))
-  where
-    both : (t : Bool) → same xs ys ≡ false → (t ⇒ same xs ys ⁏ false) ≡ false
-    both true e = e
-    both false e = refl
 
 -- ---- the check of a book, from record i of n on
 module _ (book : List ℕ) (i n : ℕ) where

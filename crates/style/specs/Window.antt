@@ -5,7 +5,7 @@ use native.Mathlib.Nat.{eq-zero-or-pos}
 use mathlib.Core.Bool.{true, false, true≢false}
 use mathlib.Core.Path.{_≡_, refl, ap, sym, _∙_}
 use mathlib.Core.Logic.{_⊎_, inl, inr, ⊎-elim}
-use mathlib.Core.List.{List, [], _∷_}
+use mathlib.Core.List.{List, []}
 use lib.ListN.{length, drop}
 use Rattle.laws.specs.Rows.{_⇒_⁏_, _=?_, _<?_, yes, no, lt, ne, lt-of, ge-of, eq-of, ne-of, each, and-of, and-is, or-none}
 use Rattle.paper.specs.Limits.{recordSize, descriptionMost, inBand, window}
@@ -13,7 +13,8 @@ use Rattle.paper.specs.Words.{kindOf}
 use Rattle.paper.specs.declared.Refusal.the-variants.{Fields, Size, Conflict}
 use Rattle.paper.specs.declared.Outcome.{Outcome}
 use Rattle.paper.specs.declared.Outcome.the-variants.{Repeat, Described, Refused}
-use Rattle.style.specs.Record.{indexOf, lengthOf, descriptionOf, recordOf, same}
+use Rattle.octets.specs.Same.{same-of}
+use Rattle.style.specs.Record.{indexOf, lengthOf, descriptionOf, recordOf}
 use Rattle.style.specs.Store.{within, moved, slot, carries, held, inStore, stays, forgotten, stored, repeated, improper, After, told, left, noted}
 use Rattle.style.specs.Shown.{shown}
 use Rattle.style.specs.Puts.{either}
@@ -26,17 +27,6 @@ shown-held : (book store : List ℕ) (newest v : ℕ) → held store newest v �
 unfolding shown inStore
 shown-held book store newest v h =
     let w = within-of newest v (held-of store newest v h .0) in sym (yes _ _ (lt _ _ (w .1 .0)) (yes _ _ h refl))
-
-same-is : (a b : List ℕ) → same a b ≡ true → a ≡ b
-unfolding same
-same-is [] [] h = refl
-same-is [] (y ∷ ys) h = absurd (true≢false (sym h))
-same-is (x ∷ xs) [] h = absurd (true≢false (sym h))
-same-is (x ∷ xs) (y ∷ ys) h =
-    let p = and-of _ _ h in
-    let a : x ≡ y = eq-of x y (p .0) in
-    let b : xs ≡ ys = same-is xs ys (p .1) in
-    rw (a, b)
 
 module _ (store : List ℕ) (newest sidx : ℕ) (d : List ℕ) where
   -- the store, the newest value and the outcome when the unit d of the value sidx has come
@@ -142,7 +132,7 @@ module _ (store : List ℕ) (newest sidx : ℕ) (d : List ℕ) where
       (λ (a : After). (a .answer .outcome ≡ Described) ⊎ (a .answer .outcome ≡ Repeat) → shown book (a .store) (a .answer .newest) sidx ≡ d)
       (λ o n r k.
       let p = and-of _ _ (r (⊎-elim (λ e. absurd (n e)) (λ e. e) k)) in
-      shown-held book store newest sidx (p .0) ∙ same-is (descriptionOf (slot store sidx)) d (p .1))
+      shown-held book store newest sidx (p .0) ∙ same-of (descriptionOf (slot store sidx)) d (p .1))
       (λ hs hd hl hh k.
       let new = moved newest sidx in
       let s = forgotten newest new store in

@@ -10,7 +10,7 @@ ghost use mathlib.Core.Path.{_≡_};
 ghost use Prim.Native.Nat.{_*_, _<_};
 ghost use lib.Seq.{sets};
 ghost use Rattle.paper.specs.Limits.{recordSize};
-ghost use Rattle.style.specs.Record.{recordAt, indexOf, descriptionOf, recordOf, filled, same};
+ghost use Rattle.style.specs.Record.{recordAt, indexOf, descriptionOf, recordOf, filled};
 ghost use Rattle.style.specs.Book.{broken, falling, badRecord, countOf, checkOf, entryFrom, entryOf};
 ghost use Rattle.style.specs.Store.{minus, within, moved, carries, held, inStore, stays, forgottenAt, forgotten, stored, repeated, improper, left, noted};
 ghost use Rattle.style.specs.Shown.{shown};
@@ -59,26 +59,6 @@ fn is_filled(s: &[u8]) -> bool
         i += 1;
     }
     false
-}
-
-fn is_same(a: &[u8], b: &[u8]) -> bool
-    ensures { λ r. ⌜ r ≡ same (now (a .entry)) (now (b .entry)) ⌝ }
-{
-    let n = a.len();
-    if n < b.len() {
-        return false;
-    }
-    if b.len() < n {
-        return false;
-    }
-    let mut i = 0;
-    while i < n {
-        if a[i] != b[i] {
-            return false;
-        }
-        i += 1;
-    }
-    true
 }
 
 fn is_broken(r: &[u8]) -> bool
@@ -229,7 +209,7 @@ fn is_repeated(store: &[u8], newest: usize, v: usize, d: &[u8]) -> bool
     ensures { λ r. ⌜ r ≡ repeated (now (store .entry)) newest v (now (d .entry)) ⌝ }
 {
     if is_held(store, newest, v) {
-        return is_same(description_of(record_at(store, v % WINDOW)), d);
+        return octets::same(description_of(record_at(store, v % WINDOW)), d);
     }
     false
 }
