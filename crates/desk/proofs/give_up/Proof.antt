@@ -6,6 +6,19 @@ use Rattle.desk.specs.Takes.{given-freed, given-none}
 use Rattle.desk.proofs.give_up.Statement.{statement}
 use Rattle.desk.proofs.give_up.Tie as tie
 
+returns : tie.Need-returns
+returns c = λ store out.
+    let a = c .before .before .before .before .before .before .before .before .before .before .before .args in
+    let s = own (a .place) (now (a .row)) (now (a .marks)) store out in
+    given-freed s (a .time) (c .before .before .before .before .before .before .before .before .if1 .taken) _ (c .closed .ensures) _ _
+    (c .before .before .before .before .before .finish .ensures .0) (c .before .before .before .before .before .finish .ensures .1)
+
+returns-2 : tie.Need-returns-2
+returns-2 c = λ store out.
+    let a = c .before .before .before .args in
+    let s = own (a .place) (now (a .row)) (now (a .marks)) store out in
+    given-none s (a .time) (c .if1 .left)
+
 pub give-up-spec : {M : Type 1} → statement M
 give-up-spec =
     tie.close
@@ -14,5 +27,5 @@ give-up-spec =
     (λ c κs. search needs)
     (λ c. search needs)
     (λ c. search needs)
-    (λ c. λ store out. let a = c .before .before .before .before .before .before .before .before .before .before .before .args in let s = own (a .place) (now (a .row)) (now (a .marks)) store out in given-freed s (a .time) (c .before .before .before .before .before .before .before .before .if1 .taken) _ (c .closed .ensures) _ _ (c .before .before .before .before .before .finish .ensures .0) (c .before .before .before .before .before .finish .ensures .1))
-    (λ c. λ store out. let a = c .before .before .before .args in let s = own (a .place) (now (a .row)) (now (a .marks)) store out in given-none s (a .time) (c .if1 .left)))
+    returns
+    returns-2)

@@ -4,6 +4,11 @@ use mathlib.Core.Path.{_∙_}
 use Rattle.desk.proofs.take_part.Statement.{statement}
 use Rattle.desk.proofs.take_part.Tie as tie
 
+returns : tie.Need-returns
+returns c = λ store.
+    c .before .before .before .before .before .before .join .ensures store ∙ rw
+    (c .before .before .before .before .before .before .before .before .before .before .sample-of .ensures, c .before .before .before .before .before .before .before .before .before .before .before .next-time .ensures)
+
 pub take-part-spec : {M : Type 1} → statement M
 take-part-spec =
     tie.close
@@ -14,4 +19,4 @@ take-part-spec =
     (λ c. search needs)
     (λ c. search needs)
     (λ c. search needs)
-    (λ c. λ store. c .before .before .before .before .before .before .join .ensures store ∙ rw (c .before .before .before .before .before .before .before .before .before .before .sample-of .ensures, c .before .before .before .before .before .before .before .before .before .before .before .next-time .ensures)))
+    returns)

@@ -6,6 +6,43 @@ use Rattle.desk.specs.Takes.{whole-late, whole-open, whole-size, whole-o
 use Rattle.desk.proofs.take_whole.Statement.{statement}
 use Rattle.desk.proofs.take_whole.Tie as tie
 
+returns : tie.Need-returns
+returns c = λ store.
+    let a = c .before .before .before .before .before .before .before .before .before .before .args in
+    let s = own (a .place) (now (a .row)) (now (a .marks)) store (now (a .out)) in
+    whole-late s (a .time) (a .used) _ (a .w) (now (a .d)) (c .before .before .before .before .before .add-time .ensures) _
+    (c .before .before .is-late .ensures) (c .before .if1 .taken) _ (c .said .ensures)
+
+returns-2 : tie.Need-returns-2
+returns-2 c = λ store.
+    let a = c .before .before .before .before .before .before .before .before .before .before .before .args in
+    let s = own (a .place) (now (a .row)) (now (a .marks)) store (now (a .out)) in
+    whole-open s (a .time) (a .used) _ (a .w) (now (a .d)) (c .before .before .before .before .before .before .add-time .ensures) _
+    (c .before .before .before .is-late .ensures) (c .before .before .if1 .left) (c .before .if2 .taken) _ (c .said2 .ensures)
+
+returns-3 : tie.Need-returns-3
+returns-3 c = λ store.
+    let a = c .before .before .before .before .before .before .before .before .before .before .before .before .before .args in
+    let s = own (a .place) (now (a .row)) (now (a .marks)) store (now (a .out)) in
+    whole-size s (a .time) (a .used) _ (a .w) (now (a .d)) (c .before .before .before .before .before .before .before .before .add-time .ensures) _
+    (c .before .before .before .before .before .is-late .ensures) (c .before .before .before .before .if1 .left)
+    (c .before .before .before .if2 .left) (c .before .if3 .taken) _ (c .said3 .ensures)
+
+returns-4 : tie.Need-returns-4
+returns-4 c = λ store.
+    let a = c .before .before .before .before .before .before .before .before .before .before .before .before .before .before .before .before .before
+    .before .before .before .before .before .before .before .args in
+    let s = own (a .place) (now (a .row)) (now (a .marks)) store (now (a .out)) in
+    whole-out s (a .time) (a .used) _ (a .w) (now (a .d))
+    (c .before .before .before .before .before .before .before .before .before .before .before .before .before .before .before .before .before .before .before .add-time .ensures)
+    _
+    (c .before .before .before .before .before .before .before .before .before .before .before .before .before .before .before .before .is-late .ensures)
+    (c .before .before .before .before .before .before .before .before .before .before .before .before .before .before .before .if1 .left)
+    (c .before .before .before .before .before .before .before .before .before .before .before .before .before .before .if2 .left)
+    (c .before .before .before .before .before .before .before .before .before .before .before .before .if3 .left) _ _ _
+    (c .before .before .before .before .before .finish .ensures .0) (c .before .before .before .before .before .finish .ensures .1)
+    (c .before .before .before .before .before .before .before .before .before .before .put .ensures) _ (c .said4 .ensures)
+
 pub take-whole-spec : {M : Type 1} → statement M
 take-whole-spec =
     tie.close
@@ -15,19 +52,19 @@ take-whole-spec =
     (λ c κs. search needs)
     (λ c. search needs)
     (λ c. search needs)
-    (λ c. λ store. let a = c .before .before .before .before .before .before .before .before .before .before .args in let s = own (a .place) (now (a .row)) (now (a .marks)) store (now (a .out)) in whole-late s (a .time) (a .used) _ (a .w) (now (a .d)) (c .before .before .before .before .before .add-time .ensures) _ (c .before .before .is-late .ensures) (c .before .if1 .taken) _ (c .said .ensures))
+    returns
     (λ c κs. search needs)
     (λ c. search needs)
     (λ c. search needs)
-    (λ c. λ store. let a = c .before .before .before .before .before .before .before .before .before .before .before .args in let s = own (a .place) (now (a .row)) (now (a .marks)) store (now (a .out)) in whole-open s (a .time) (a .used) _ (a .w) (now (a .d)) (c .before .before .before .before .before .before .add-time .ensures) _ (c .before .before .before .is-late .ensures) (c .before .before .if1 .left) (c .before .if2 .taken) _ (c .said2 .ensures))
+    returns-2
     (λ c κs. search needs)
     (λ c. search needs)
     (λ c. search needs)
-    (λ c. λ store. let a = c .before .before .before .before .before .before .before .before .before .before .before .before .before .args in let s = own (a .place) (now (a .row)) (now (a .marks)) store (now (a .out)) in whole-size s (a .time) (a .used) _ (a .w) (now (a .d)) (c .before .before .before .before .before .before .before .before .add-time .ensures) _ (c .before .before .before .before .before .is-late .ensures) (c .before .before .before .before .if1 .left) (c .before .before .before .if2 .left) (c .before .if3 .taken) _ (c .said3 .ensures))
+    returns-3
     (λ c κs. search needs)
     (λ c κs. search needs)
     (λ c κs. search needs)
     (λ c. search needs)
     (λ c. search needs)
     (λ c. search needs)
-    (λ c. λ store. let a = c .before .before .before .before .before .before .before .before .before .before .before .before .before .before .before .before .before .before .before .before .before .before .before .before .args in let s = own (a .place) (now (a .row)) (now (a .marks)) store (now (a .out)) in whole-out s (a .time) (a .used) _ (a .w) (now (a .d)) (c .before .before .before .before .before .before .before .before .before .before .before .before .before .before .before .before .before .before .before .add-time .ensures) _ (c .before .before .before .before .before .before .before .before .before .before .before .before .before .before .before .before .is-late .ensures) (c .before .before .before .before .before .before .before .before .before .before .before .before .before .before .before .if1 .left) (c .before .before .before .before .before .before .before .before .before .before .before .before .before .before .if2 .left) (c .before .before .before .before .before .before .before .before .before .before .before .before .if3 .left) _ _ _ (c .before .before .before .before .before .finish .ensures .0) (c .before .before .before .before .before .finish .ensures .1) (c .before .before .before .before .before .before .before .before .before .before .put .ensures) _ (c .said4 .ensures)))
+    returns-4)

@@ -9,6 +9,20 @@ use Rattle.writer.specs.Write.{unwritable}
 use Rattle.writer.proofs.is_unwritable.Statement.{statement}
 use Rattle.writer.proofs.is_unwritable.Tie as tie
 
+returns-4 : tie.Need-returns-4
+unfolding unwritable
+returns-4 c =
+    let a = c .before .before .before .before .before .before .before .args in
+    no _ _ (cc)
+    (no _ _ (ge _ _ (omega arith)) (no _ _ (ge _ _ (omega arith)) (yes _ _ (lt _ _ (omega (arith, length-append (now (a .string)) (now (a .modifiers))))) refl)))
+
+returns-5 : tie.Need-returns-5
+unfolding unwritable
+returns-5 c =
+    let a = c .before .before .before .before .before .before .before .before .args in
+    no _ _ (cc)
+    (no _ _ (ge _ _ (omega arith)) (no _ _ (ge _ _ (omega arith)) (no _ _ (ge _ _ (omega (arith, length-append (now (a .string)) (now (a .modifiers))))) (cc))))
+
 pub is-unwritable-spec : {M : Type 1} → statement M
 unfolding unwritable
 is-unwritable-spec =
@@ -21,6 +35,6 @@ is-unwritable-spec =
     (λ c. search needs)
     (λ c. no _ _ (cc) (no _ _ (ge _ _ (omega arith)) (yes _ _ (lt _ _ (omega arith)) refl)))
     (λ c. search needs)
-    (λ c. let a = c .before .before .before .before .before .before .before .args in no _ _ (cc) (no _ _ (ge _ _ (omega arith)) (no _ _ (ge _ _ (omega arith)) (yes _ _ (lt _ _ (omega (arith, length-append (now (a .string)) (now (a .modifiers))))) refl))))
+    returns-4
     (λ c κs. search needs)
-    (λ c. let a = c .before .before .before .before .before .before .before .before .args in no _ _ (cc) (no _ _ (ge _ _ (omega arith)) (no _ _ (ge _ _ (omega arith)) (no _ _ (ge _ _ (omega (arith, length-append (now (a .string)) (now (a .modifiers))))) (cc))))))
+    returns-5)

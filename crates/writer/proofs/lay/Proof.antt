@@ -7,6 +7,12 @@ use Rattle.writer.specs.Returns.{lay-is}
 use Rattle.writer.proofs.lay.Statement.{statement}
 use Rattle.writer.proofs.lay.Tie as tie
 
+returns : tie.Need-returns
+returns c =
+    let a = c .before .before .before .before .before .before .before .before .before .before .args in
+    let h = c .before .before .before .before .before .before .put-head .ensures in
+    lay-is (a .x) (now (a .d)) (now (a .out)) _ _ _ (h .0) (h .1) (c .before .before .put .ensures)
+
 pub lay-spec : {M : Type 1} → statement M
 lay-spec =
     tie.close
@@ -15,4 +21,4 @@ lay-spec =
     (λ c κs. search needs)
     (λ c. omega (arith, head-short (c .before .before .before .before .before .before .before .before .before .before .args .x)))
     (λ c. search needs)
-    (λ c. let a = c .before .before .before .before .before .before .before .before .before .before .args in let h = c .before .before .before .before .before .before .put-head .ensures in lay-is (a .x) (now (a .d)) (now (a .out)) _ _ _ (h .0) (h .1) (c .before .before .put .ensures)))
+    returns)

@@ -7,6 +7,12 @@ use Rattle.writer.specs.Returns.{lay-more}
 use Rattle.writer.proofs.write_whole.Statement.{statement}
 use Rattle.writer.proofs.write_whole.Tie as tie
 
+returns : tie.Need-returns
+returns c =
+    let a = c .before .before .before .before .before .before .before .before .before .before .before .args in
+    rw (length-append (now (a .string)) (now (a .modifiers)))
+    (lay-more _ (now (a .string)) (now (a .modifiers)) (now (a .out)) _ _ _ (c .before .before .before .before .before .before .lay .ensures) (c .before .before .put .ensures))
+
 pub write-whole-spec : {M : Type 1} → statement M
 write-whole-spec =
     tie.close
@@ -16,4 +22,4 @@ write-whole-spec =
     (λ c κs. search needs)
     (λ c. search needs)
     (λ c. search needs)
-    (λ c. let a = c .before .before .before .before .before .before .before .before .before .before .before .args in rw (length-append (now (a .string)) (now (a .modifiers))) (lay-more _ (now (a .string)) (now (a .modifiers)) (now (a .out)) _ _ _ (c .before .before .before .before .before .before .lay .ensures) (c .before .before .put .ensures))))
+    returns)
