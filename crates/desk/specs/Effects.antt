@@ -3,12 +3,12 @@
 use Prim.Native.Nat.{ℕ, _-_, _≤_, _<_}
 use native.Mathlib.Omega.{arith}
 use mathlib.Core.Path.{_≡_, refl, sym, ap, _∙_}
-use mathlib.Core.Bool.{true}
+use mathlib.Core.Bool.{Bool, true, false, not}
 use mathlib.Core.Logic.{_⊎_, ⊎-elim}
 use mathlib.Core.List.{List}
 use lib.ListN.{length, set}
 use lib.Seq.{sets, set-getD}
-use Rattle.laws.specs.Rows.{each, yes, lt, ge-of, below}
+use Rattle.laws.specs.Rows.{_⇒_⁏_, each, yes, no, lt, ge-of, below}
 use Rattle.paper.specs.Limits.{ownPlaces}
 use Rattle.paper.specs.Words.{numberOf, kindOf}
 use Rattle.paper.specs.declared.Refusal.{Refusal}
@@ -23,13 +23,13 @@ use Rattle.unit.specs.declared.Unit.the-variants.{End, Skipped, Refused, Whole,
 use Rattle.unit.specs.Layout.{readOf, dataOf}
 use Rattle.unit.specs.Reads.{reads-within, Known, reads-known}
 use Rattle.sample.specs.declared.Place.{Place}
-use Rattle.sample.specs.Place.{closed, kept, missing, piecesOf}
+use Rattle.sample.specs.Place.{closed, repeats, oversize, kept, missing, piecesOf}
 use Rattle.joining.specs.Joining.{together, stringOf, sound}
 use Rattle.paper.specs.declared.Facts.{Facts}
 use Rattle.style.specs.Store.{noted}
 use Rattle.style.specs.Store as S
 use Rattle.desk.specs.declared.Shares.{Shares}
-use Rattle.desk.specs.Desk.{Own, After, own, says, refuse, finish, newestOf, later, facts, wholeTaken, six, usedUp, completed, joining, descriptionTaken, taken, received}
+use Rattle.desk.specs.Desk.{Own, After, own, says, refuse, finish, isLate, newestOf, later, facts, wholeTaken, sampleOf, conflicts, six, usedUp, completed, joining, descriptionTaken, taken, received}
 
 -- ---- effects: 10 frees the place and marks the time; every other refusal leaves all as it stood
 abbrev pub Effect : Own → (time : ℕ) → After → Type 0
@@ -134,34 +134,62 @@ progress h s desk time rest =
     let w = reads-within rest in
     (omega (arith, w .most), λ l. omega (arith, w .some l))
 
--- ---- the shares: what they say of the common use is heard only where two or more samples are open and the part would open one
-heard : (p : Place) (h h' : Shares) → h .opens ≡ h' .opens → (p .used ≡ true) ⊎ (h .opens < ownPlaces) → usedUp p h ≡ usedUp p h'
-unfolding usedUp
-heard p h h' e k =
-    ⊎-elim (λ u. sym (yes _ _ u refl) ∙ yes _ _ u refl)
-    (λ l. below _ _ _ _ (λ u. sym (yes _ _ (lt _ _ l) refl) ∙ yes _ _ (lt _ _ (omega arith)) refl)) k
+-- ---- the shares: the common use is heard only by a part that would open a sample while two or more are open
+-- the part, of the sample q, reaches the test of the shares: 6, repeat, 7 and 5 let it through, and its sample is not open
+unfoldable pub asksPart : Own → (time : ℕ) → (q : Place) → P.Part → List ℕ → Bool
+asksPart s time q x d =
+    isLate s time ⇒ false
+    ⁏ repeats q x d ⇒ false
+    ⁏ conflicts q x ⇒ false
+    ⁏ oversize q x (length d) ⇒ false
+    ⁏ not (s .place .used)
+
+abbrev pub asks : Own → (desk time : ℕ) → (rest : List ℕ) → Unit → Bool
+asks s desk time rest End = false
+asks s desk time rest (Skipped t) = false
+asks s desk time rest (Refused r) = false
+asks s desk time rest (Whole w) = false
+asks s desk time rest (Part x) = asksPart s time (sampleOf (s .place) desk time x) x (dataOf rest (Part x))
+asks s desk time rest (Description w) = false
 
 same-six : (p : Place) (h h' : Shares) → h .opens ≡ h' .opens → six p h ≡ six p h'
 unfolding six
 same-six p h h' e = rw e
 
-joined : (h h' : Shares) (s : Own) (time used next : ℕ) (q : Place) (x : P.Part) (d : List ℕ) → six (s .place) h ≡ six (s .place) h'
-    → usedUp (s .place) h ≡ usedUp (s .place) h' → joining h s time used next q x d ≡ joining h' s time used next q x d
-unfolding joining
-joined h h' s time used next q x d a b = rw (a, b)
+heard : (p : Place) (h h' : Shares) → h .opens ≡ h' .opens → (not (p .used) ≡ true → h .opens < ownPlaces) → usedUp p h ≡ usedUp p h'
+unfolding usedUp
+heard p h h' e k =
+    below _ _ _ _
+    (λ u.
+    let l = k (ap not u) in
+    sym (yes _ _ (lt _ _ l) refl) ∙ yes _ _ (lt _ _ (omega arith)) refl)
 
-pub unheard : (h h' : Shares) (s : Own) (desk time : ℕ) (rest : List ℕ) → h .opens ≡ h' .opens → (s .place .used ≡ true) ⊎ (h .opens < ownPlaces)
-    → received h s desk time rest ≡ received h' s desk time rest
+unheard-part : (h h' : Shares) (s : Own) (time used next : ℕ) (q : Place) (x : P.Part) (d : List ℕ) → h .opens ≡ h' .opens
+    → (asksPart s time q x d ≡ true → h .opens < ownPlaces) → joining h s time used next q x d ≡ joining h' s time used next q x d
+unfolding joining asksPart
+unheard-part h h' s time used next q x d e k =
+    below _ _ _ _
+    (λ f₁. below _ _ _ _
+    (λ f₂. below _ _ _ _
+    (λ f₃. below _ _ _ _
+    (λ f₄.
+    let u : usedUp (s .place) h ≡ usedUp (s .place) h' =
+    heard (s .place) h h' e (λ n. k (sym (no _ _ f₁ (no _ _ f₂ (no _ _ f₃ (no _ _ f₄ (sym n))))))) in
+    rw (same-six (s .place) h h' e, u)))))
+
+pub unheard : (h h' : Shares) (s : Own) (desk time : ℕ) (rest : List ℕ) → h .opens ≡ h' .opens
+    → (asks s desk time rest (readOf rest .unit) ≡ true → h .opens < ownPlaces) → received h s desk time rest ≡ received h' s desk time rest
 unfolding received
-unheard h h' s desk time rest e k = go (readOf rest .unit)
+unheard h h' s desk time rest e = go (readOf rest .unit)
   where
-    go : (x : Unit) → taken h s desk time (readOf rest .used) rest x ≡ taken h' s desk time (readOf rest .used) rest x
-    go End = refl
-    go (Skipped t) = refl
-    go (Refused r) = refl
-    go (Whole w) = refl
-    go (Part x) = joined h h' s time (readOf rest .used) _ _ x (dataOf rest (Part x)) (same-six (s .place) h h' e) (heard (s .place) h h' e k)
-    go (Description w) = refl
+    go : (x : Unit) → (asks s desk time rest x ≡ true → h .opens < ownPlaces)
+        → taken h s desk time (readOf rest .used) rest x ≡ taken h' s desk time (readOf rest .used) rest x
+    go End k = refl
+    go (Skipped t) k = refl
+    go (Refused r) k = refl
+    go (Whole w) k = refl
+    go (Part x) k = unheard-part h h' s time (readOf rest .used) _ _ x (dataOf rest (Part x)) e k
+    go (Description w) k = refl
 
 -- ---- what is handed out, and what is said to be missing
 pub whole-handed : (s : Own) (time used : ℕ) (w : W.Whole) (d : List ℕ) (f : Facts) → wholeTaken s time used w d .answer .outcome ≡ O.Whole f
