@@ -1,4 +1,4 @@
--- The limits of document 01, each named once; src/limits.rt has the same names for the code. Assumes nothing.
+-- The limits of document 01, each named once; src/limits.rt has the fixed numbers under the same names for the code. Assumes nothing.
 use Prim.Native.Nat.{ℕ, _*_}
 
 -- the longest sample, the bytes that a place keeps, and the least output
