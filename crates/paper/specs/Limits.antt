@@ -40,9 +40,20 @@ ownPlaces = 2
 abbrev pub openMost : ℕ
 openMost = 6
 
+-- what each desk needs of the lent memory: places, marks (how many finished times are in use; the newest in-band value, where
+-- `inBand` is none), and its store of 64 records
+abbrev pub placesEach : ℕ
+placesEach = 4
+
+abbrev pub marksEach : ℕ
+marksEach = 2
+
+abbrev pub storeSize : ℕ
+storeSize = 16640
+
 -- n desks have 4n places, of which 2n are common
 abbrev pub places : ℕ → ℕ
-places n = 4 * n
+places n = placesEach * n
 
 abbrev pub common : ℕ → ℕ
 common n = 2 * n

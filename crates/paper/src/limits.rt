@@ -17,6 +17,12 @@ pub const RESERVED: usize = 255;
 
 pub const DESKS_MOST: usize = 8;
 
+pub const PLACES_EACH: usize = 4;
+
+pub const MARKS_EACH: usize = 2;
+
+pub const STORE_SIZE: usize = 16640;
+
 pub const OWN_PLACES: usize = 2;
 
 pub const OPEN_MOST: usize = 6;

@@ -1,0 +1,115 @@
+-- Shares of the places: what holds of the 4n places after every call, and the pigeonhole: a desk that the shares let through finds a
+-- free place. Assumes nothing.
+use Prim.Native.Nat.{ℕ, suc, _+_, _-_, _≤_, _<_, zero-le}
+use native.Mathlib.Decide.{decLt, ℕ-discrete}
+use native.Mathlib.Omega.{arith}
+use mathlib.Core.Path.{_≡_, refl, ap}
+use mathlib.Core.Bool.{Bool, true, false}
+use mathlib.Core.Logic.{_⊎_, inl, inr, ⊎-elim, _≢_}
+use mathlib.Core.List.{List, [], _∷_}
+use lib.ListN.{length, replicate}
+use Rattle.laws.specs.Rows.{_⇒_⁏_, and-is, eq}
+use Rattle.laws.specs.Table.{bit, seek, count, seek-not, count-none}
+use Rattle.laws.specs.Sums.{sum, sum-more, sum-add, sum-gap, sum-ge, sum-zero}
+use Rattle.paper.specs.Limits.{ownPlaces, openMost, places, common}
+use Rattle.sample.specs.declared.Place.{Place}
+use Rattle.sample.specs.Place.{bare, closed}
+use Rattle.table.specs.Table.{vacant, mine, isAt}
+use Rattle.desk.specs.declared.Shares.{Shares}
+use Rattle.relay.specs.Relay.{openAt, commonUse, sharesOf}
+use Rattle.good.specs.Places.{open-none, Moved}
+
+-- a sample is open once at most; a desk has six open at most, and only desks below n have any; the common use is at most the common places
+pub record Fair (n : ℕ) (l : List Place) : Type 0 where
+  pub once : (d t : ℕ) → count (isAt d t) l ≤ 1
+  pub six : (d : ℕ) → count (mine d) l ≤ openMost
+  pub whose : (d : ℕ) → n ≤ d → count (mine d) l ≡ 0
+  pub shared : commonUse n l ≤ common n
+
+-- the shares let a desk through: fewer than six are open, and fewer than two or the common use is not all of the common places
+pub record Passed (h : Shares) : Type 0 where
+  pub below : h .opens < openMost
+  pub share : (h .opens < ownPlaces) ⊎ (h .common ≢ common (h .desks))
+
+-- ---- the pigeonhole
+open-sum : (n : ℕ) (y : Place) → ((d : ℕ) → n ≤ d → bit (mine d y) ≡ 0) → bit (y .used) ≤ sum n (λ (e : ℕ). bit (mine e y))
+open-sum n y h = go (y .used) refl (decLt (y .desk) n)
+  where
+    go : (b : Bool) → y .used ≡ b → Dec (y .desk < n) → bit b ≤ sum n (λ (e : ℕ). bit (mine e y))
+    go false e k = zero-le
+    go true e k =
+        let one = ap bit (and-is (y .used) _ e (eq (y .desk) (y .desk) refl)) in
+        elim k [
+          | yes k ↦ omega (arith, sum-ge n (y .desk) (λ (e : ℕ). bit (mine e y)) k)
+          | no k ↦ absurd (omega (arith, h (y .desk) (omega arith)))
+        ]
+
+-- each open place is that of a desk below n
+all-open : (n : ℕ) (l : List Place) → ((d : ℕ) → n ≤ d → count (mine d) l ≡ 0) → count (λ (y : Place). y .used) l ≤ sum n (λ (e : ℕ). count (mine e) l)
+all-open n [] h = zero-le
+all-open n (y ∷ ys) h =
+    omega (
+      arith,
+      sum-add n (λ (e : ℕ). bit (mine e y)) (λ (e : ℕ). count (mine e) ys),
+      open-sum n y (λ d k. omega (arith, h d k)),
+      all-open n ys (λ d k. omega (arith, h d k)),
+    )
+
+pub room : (n d : ℕ) (l : List Place) → Fair n l → Passed (sharesOf n d l) → length l ≡ places n → d < n → seek vacant l < length l
+room n d l f p size h =
+    let a = all-open n l (f .whose) in
+    let g = sum-gap n d (λ (e : ℕ). count (mine e) l) (λ (e : ℕ). ownPlaces + (count (mine e) l - ownPlaces)) h (λ e k. omega arith) in
+    let t = sum-more n ownPlaces (λ (e : ℕ). count (mine e) l - ownPlaces) in
+    seek-not (λ (y : Place). y .used) l (⊎-elim (λ k. omega arith) (λ k. omega (arith, f .shared)) (p .share))
+
+-- ---- closed places are fair
+pub fair-closed : (n k : ℕ) → Fair n (replicate k closed)
+unfolding bare _⇒_⁏_
+fair-closed n k = record {
+  once = λ d t. omega (arith, count-none (isAt d t) k closed refl);
+  six = λ d. omega (arith, count-none (mine d) k closed refl);
+  whose = λ d h. count-none (mine d) k closed refl;
+  shared = omega (arith, sum-zero n (λ (e : ℕ). count (mine e) (replicate k closed) - ownPlaces) (λ e. omega (arith, count-none (mine e) k closed refl)));
+}
+
+-- ---- fairness is kept where a desk below n leaves its sample of a time, if a new one is let through
+module _ (n d t : ℕ) (p : Place) (l k : List Place) (f : Fair n l) (h : d < n) (m : Moved d t p l k)
+    (passed : p .used ≡ true → openAt d t l .used ≡ false → Passed (sharesOf n d l)) where
+  -- no more of the desk's samples are open than before; or one more, and the shares let it through
+  abbrev Grows : Type 0
+  Grows =
+      ((count (isAt d t) k ≤ count (isAt d t) l) × (count (mine d) k ≤ count (mine d) l))
+      ⊎ ((count (isAt d t) k ≤ 1) × ((count (mine d) k ≡ suc (count (mine d) l)) × Passed (sharesOf n d l)))
+
+  grows : Grows
+  grows = go (p .used) refl (openAt d t l .used) refl
+    where
+      go : (b : Bool) → p .used ≡ b → (c : Bool) → openAt d t l .used ≡ c → Grows
+      go true u true o = inl (omega (arith, m .own-isAt, m .own-mine, ap bit u, ap bit o))
+      go true u false o =
+          inr (omega (arith, m .own-isAt, ap bit u, ap bit o, open-none d t l o), (omega (arith, m .own-mine, ap bit u, ap bit o), passed u o))
+      go false u c o = inl (omega (arith, m .own-isAt, m .own-mine, ap bit u))
+
+  gap : commonUse n k + (count (mine d) l - ownPlaces) ≤ commonUse n l + (count (mine d) k - ownPlaces)
+  gap =
+      sum-gap n d (λ (e : ℕ). count (mine e) k - ownPlaces) (λ (e : ℕ). count (mine e) l - ownPlaces) h (λ e q. omega (arith, m .other-mine e q))
+
+  pub fair-moved : Fair n k
+  fair-moved = record {
+    once = λ e u. once e u (ℕ-discrete e d) (ℕ-discrete u t);
+    six = λ e. six e (ℕ-discrete e d);
+    whose = λ e q. omega (arith, f .whose e q, m .other-mine e (λ c. omega arith));
+    shared =
+        let b = f .shared in
+        let c = gap in
+        ⊎-elim (λ w. omega arith) (λ w. ⊎-elim (λ q. omega arith) (λ q. omega arith) (w .1 .1 .share)) grows;
+  }
+    where
+      once : (e u : ℕ) → Dec (e ≡ d) → Dec (u ≡ t) → count (isAt e u) k ≤ 1
+      once e u (yes q) (yes r) = rw (q, r) (⊎-elim (λ w. omega (arith, f .once d t)) (λ w. w .0) grows)
+      once e u (yes q) (no r) = omega (arith, f .once e u, m .other-isAt e u (λ a. r))
+      once e u (no q) r = omega (arith, f .once e u, m .other-isAt e u (λ a b. q a))
+
+      six : (e : ℕ) → Dec (e ≡ d) → count (mine e) k ≤ openMost
+      six e (yes q) = rw q (⊎-elim (λ w. omega (arith, f .six d)) (λ w. omega (arith, w .1 .1 .below)) grows)
+      six e (no q) = omega (arith, f .six e, m .other-mine e q)

@@ -1,0 +1,166 @@
+-- Good tables: long enough for n desks, and with fair places. Set-up makes them and every call keeps them, whatever it is handed.
+-- Assumes nothing.
+use Prim.Native.Nat.{ℕ, _*_, _≤_, _<_}
+use native.Mathlib.Omega.{arith}
+use mathlib.Core.Path.{_≡_, refl, sym, ap, subst, _∙_}
+use mathlib.Core.Bool.{Bool, true, false, not}
+use mathlib.Core.List.{List, [], _++_}
+use lib.ListN.{length, take, drop, replicate, length-append, length-set, length-replicate, take-append-drop}
+use lib.Seq.{sets, length-sets, length-take-le, take-at, sets-eq}
+use Rattle.laws.specs.Rows.{_⇒_⁏_, _or_, _<?_, no, lt, ge, ne, lt-of, ge-of, ne-of, or-none}
+use Rattle.laws.specs.Region.{splice, length-cell, length-cells, splice-part}
+use Rattle.paper.specs.Limits.{finishedMost, desksMost, placesEach, marksEach, storeSize, places}
+use Rattle.sample.specs.declared.Place.{Place}
+use Rattle.sample.specs.Place.{closed}
+use Rattle.desk.specs.Desk.{Own}
+use Rattle.relay.specs.Relay.{Tables, within, rowOf, marksOf, storeOf, openAt, ownOf, sharesOf, placed, standsAt, putBack, improper, stranger, short, lacksThree, lacking, Made, freshMarks, setUp, ordered, receivedAt, yielded, givenUpAt}
+use Rattle.good.specs.Places.{open-named, placed-open, Moved, moved}
+use Rattle.good.specs.Fair.{Fair, room, fair-closed, fair-moved}
+use Rattle.good.specs.Leaves.{Leaves, ordered-leaves, yielded-leaves}
+
+pub record Good (n : ℕ) (s : Tables) : Type 0 where
+  pub from : 1 ≤ n
+  pub to : n ≤ desksMost
+  pub places : placesEach * n ≤ length (s .places)
+  pub rows : finishedMost * n ≤ length (s .rows)
+  pub marks : marksEach * n ≤ length (s .marks)
+  pub stores : storeSize * n ≤ length (s .stores)
+  pub fair : Fair n (within n s)
+
+-- ---- refusal 1: what it lets through, and that it lets every desk of good tables through
+pub below : (n desk : ℕ) → stranger n desk ≡ false → desk < n
+unfolding stranger
+below n desk e = lt-of _ _ (turned (desk <? n) (or-none _ _ e .1))
+  where
+    turned : (b : Bool) → not b ≡ false → b ≡ true
+    turned true h = refl
+    turned false h = sym h
+
+pub no-stranger : (n desk : ℕ) (s : Tables) → Good n s → desk < n → stranger n desk ≡ false
+unfolding stranger improper
+no-stranger n desk s g h =
+    sym (no _ true (sym (no _ true (ne _ _ (λ e. omega (arith, g .from))) (sym (ge _ _ (g .to))))) (sym (ap not (lt _ _ h))))
+
+pub no-lack-three : (n : ℕ) (s : Tables) → Good n s → lacksThree n (length (s .places)) (length (s .rows)) (length (s .marks)) ≡ false
+unfolding short
+no-lack-three n s g = sym (no _ true (ge _ _ (g .places)) (no _ true (ge _ _ (g .rows)) (sym (ge _ _ (g .marks)))))
+
+pub no-lack : (n : ℕ) (s : Tables) → Good n s → lacking n s ≡ false
+unfolding short
+no-lack n s g = sym (no _ true (no-lack-three n s g) (sym (ge _ _ (g .stores))))
+
+-- ---- set-up
+front : (n : ℕ) (l : List Place) → n ≤ length l → take n (sets l 0 (replicate n closed)) ≡ replicate n closed
+front n l h =
+    let k = length-replicate n closed in
+    ap (take n) (sets-eq (replicate n closed) l 0 (omega arith)) ∙ take-at (replicate n closed) _ n k
+
+pub set-up-good : (n : ℕ) (s : Tables) → (improper n or lacking n s) ≡ false → Good n (setUp n s .tables)
+unfolding setUp improper short
+set-up-good n s e =
+    let a = or-none _ _ e in
+    let b = or-none _ _ (a .0) in
+    let c = or-none _ _ (a .1) in
+    let three = or-none _ _ (c .0) in
+    let two = or-none _ _ (three .1) in
+    let z : n ≡ 0 → ⊥ = ne-of _ _ (b .0) in
+    let p : placesEach * n ≤ length (s .places) = ge-of _ _ (three .0) in
+    subst (λ (m : Made). Good n (m .tables)) (no _ _ e refl)
+    (record {
+      from = omega arith;
+      to = ge-of _ _ (b .1);
+      places = omega (arith, length-sets (s .places) 0 (replicate (places n) closed));
+      rows = omega (arith, ge-of _ _ (two .0), length-sets (s .rows) 0 (replicate (finishedMost * n) 0));
+      marks = omega (arith, ge-of _ _ (two .1), length-sets (s .marks) 0 (freshMarks n));
+      stores = omega (arith, ge-of _ _ (c .1), length-sets (s .stores) 0 (replicate (storeSize * n) 0));
+      fair = rw (front (places n) (s .places) p) (fair-closed n (places n));
+    })
+
+-- ---- what a desk's call leaves, put back
+-- it fits: in the table nothing but the desk's sample of that time changes, and the lists are as long as the desk's parts
+pub record Fits (n : ℕ) (s : Tables) (desk time : ℕ) (o : Own) : Type 0 where
+  pub moved : Moved desk time (o .place) (within n s) (within n (putBack n s desk time o))
+  pub places : length (placed desk time (o .place) (within n s)) ≡ placesEach * n
+  pub row : length (o .row) ≡ finishedMost
+  pub marks : length (o .marks) ≡ marksEach
+  pub store : length (o .store) ≡ storeSize
+
+module _ (n : ℕ) (s : Tables) (desk time : ℕ) where
+  -- o is what a call with this output may leave of the desk's own things
+  abbrev pub Left : (out : List ℕ) → Own → Type 0
+  Left out o = Leaves (sharesOf n desk (within n s)) (ownOf n s desk time out) desk time o
+
+  module _ (out : List ℕ) (o : Own) (g : Good n s) (h : desk < n) (k : Left out o) where
+    pub fits : Fits n s desk time o
+    fits =
+        let l = length-take-le (places n) (s .places) (g .places) in
+        let p = length-set (within n s) (standsAt desk time (o .place) (within n s)) (o .place) ∙ l in
+        record {
+          moved =
+              rw (take-at (placed desk time (o .place) (within n s)) (drop (places n) (s .places)) (places n) p)
+              (moved desk time (o .place) (within n s) (k .named) (λ u f. room n desk (within n s) (g .fair) (k .new u f) l h));
+          places = p;
+          row = k .row ∙ length-cell finishedMost n desk (s .rows) (g .rows) h;
+          marks = k .marks ∙ length-cell marksEach n desk (s .marks) (g .marks) h;
+          store = k .store ∙ length-cell storeSize n desk (s .stores) (g .stores) h;
+        }
+
+    put-good : Good n (putBack n s desk time o)
+    put-good = record {
+      from = g .from;
+      to = g .to;
+      places = omega (arith, length-append (placed desk time (o .place) (within n s)) (drop (places n) (s .places)), fits .places);
+      rows = omega (arith, g .rows, length-cells finishedMost n desk (s .rows) (g .rows) h (o .row) (fits .row));
+      marks = omega (arith, g .marks, length-cells marksEach n desk (s .marks) (g .marks) h (o .marks) (fits .marks));
+      stores = omega (arith, g .stores, length-cells storeSize n desk (s .stores) (g .stores) h (o .store) (fits .store));
+      fair = fair-moved n desk time (o .place) (within n s) _ (g .fair) h (fits .moved) (k .new);
+    }
+
+  -- the desk's own things put back as they stood change nothing
+  pub put-same : (out : List ℕ) → putBack n s desk time (ownOf n s desk time out) ≡ s
+  put-same out = λ i. record { places = all i; rows = rows i; marks = marks i; stores = stores i }
+    where
+      all : placed desk time (openAt desk time (within n s)) (within n s) ++ drop (places n) (s .places) ≡ s .places
+      all = ap (λ (l : List Place). l ++ drop (places n) (s .places)) (placed-open desk time (within n s)) ∙ take-append-drop (places n) (s .places)
+
+      rows : splice (finishedMost * desk) finishedMost (rowOf desk (s .rows)) (s .rows) ≡ s .rows
+      rows = splice-part (finishedMost * desk) finishedMost (s .rows)
+
+      marks : splice (marksEach * desk) marksEach (marksOf desk (s .marks)) (s .marks) ≡ s .marks
+      marks = splice-part (marksEach * desk) marksEach (s .marks)
+
+      stores : splice (storeSize * desk) storeSize (storeOf desk (s .stores)) (s .stores) ≡ s .stores
+      stores = splice-part (storeSize * desk) storeSize (s .stores)
+
+  pub receive-left : (one : Bool) (rest out : List ℕ) → Left out (ordered one (sharesOf n desk (within n s)) (ownOf n s desk time out) desk time rest .own)
+  receive-left one rest out = ordered-leaves _ (ownOf n s desk time out) desk time (open-named desk time (within n s)) one rest
+
+  pub give-up-left : (one : Bool) → Left [] (yielded one (ownOf n s desk time []) time .own)
+  give-up-left one = yielded-leaves _ (ownOf n s desk time []) desk time (open-named desk time (within n s)) one
+
+  -- what holds of the tables, and of them with what a call may leave put back, holds after every call
+  module _ (P : Tables → Type 0) (same : P s) where
+    pub receive-each : (rest out : List ℕ) → (desk < n → (o : Own) → Left out o → P (putBack n s desk time o)) → P (receivedAt n s desk time rest out .tables)
+    unfolding receivedAt ordered _⇒_⁏_
+    receive-each rest out put = go (stranger n desk or lacking n s) refl
+      where
+        go : (one : Bool) → (stranger n desk or lacking n s) ≡ one
+            → P (putBack n s desk time (ordered one (sharesOf n desk (within n s)) (ownOf n s desk time out) desk time rest .own))
+        go true e = subst P (sym (put-same out)) same
+        go false e = put (below n desk (or-none _ _ e .0)) _ (receive-left false rest out)
+
+    pub give-up-each : (desk < n → (o : Own) → Left [] o → P (putBack n s desk time o)) → P (givenUpAt n s desk time .tables)
+    unfolding givenUpAt yielded _⇒_⁏_
+    give-up-each put = go (stranger n desk or lacksThree n (length (s .places)) (length (s .rows)) (length (s .marks))) refl
+      where
+        go : (one : Bool) → (stranger n desk or lacksThree n (length (s .places)) (length (s .rows)) (length (s .marks))) ≡ one
+            → P (putBack n s desk time (yielded one (ownOf n s desk time []) time .own))
+        go true e = subst P (sym (put-same [])) same
+        go false e = put (below n desk (or-none _ _ e .0)) _ (give-up-left false)
+
+-- ---- every call keeps good tables good
+pub receive-good : (n : ℕ) (s : Tables) → Good n s → (desk time : ℕ) (rest out : List ℕ) → Good n (receivedAt n s desk time rest out .tables)
+receive-good n s g desk time rest out = receive-each n s desk time (Good n) g rest out (λ h o k. put-good n s desk time out o g h k)
+
+pub give-up-good : (n : ℕ) (s : Tables) → Good n s → (desk time : ℕ) → Good n (givenUpAt n s desk time .tables)
+give-up-good n s g desk time = give-up-each n s desk time (Good n) g (λ h o k. put-good n s desk time [] o g h k)

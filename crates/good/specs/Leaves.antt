@@ -1,0 +1,141 @@
+-- What a call of a desk leaves of its own things: a place that is closed or its sample of that time, lists as long as they were, and a
+-- new sample only where the shares let it through. Assumes nothing.
+use Prim.Native.Nat.{ℕ, _<_}
+use native.Mathlib.Omega.{arith}
+use mathlib.Core.Path.{_≡_, refl, sym, ap, _∙_}
+use mathlib.Core.Bool.{Bool, true, false, true≢false}
+use mathlib.Core.Logic.{_⊎_, inl, inr, _≢_}
+use mathlib.Core.List.{List}
+use lib.ListN.{length, length-set}
+use Rattle.laws.specs.Rows.{_<?_, each, no, lt-of, ge-of, ne-of}
+use Rattle.paper.specs.Limits.{ownPlaces, common}
+use Rattle.finished.specs.Marks.{length-kept}
+use Rattle.unit.specs.declared.Whole as W
+use Rattle.unit.specs.declared.Part as P
+use Rattle.unit.specs.declared.Unit.{Unit}
+use Rattle.unit.specs.declared.Unit.the-variants.{End, Skipped, Refused, Whole, Part, Description}
+use Rattle.unit.specs.Layout.{readOf, dataOf}
+use Rattle.sample.specs.declared.Place.{Place}
+use Rattle.sample.specs.Place.{bare, closed, kept}
+use Rattle.sample.specs.Told.{Name, keep-named}
+use Rattle.style.specs.Store.{noted}
+use Rattle.style.specs.Store as S
+use Rattle.style.specs.Slots.{stored-length}
+use Rattle.desk.specs.declared.Shares.{Shares}
+use Rattle.desk.specs.Desk.{Own, After, Given, own, inUse, finish, wholeTaken, sampleOf, six, usedUp, completed, joining, descriptionTaken, taken, received, givenUp}
+use Rattle.relay.specs.Relay.{ordered, yielded}
+use Rattle.good.specs.Places.{Named, closed-free, closed-named}
+use Rattle.good.specs.Fair.{Passed}
+
+pub record Leaves (h : Shares) (s : Own) (desk time : ℕ) (o : Own) : Type 0 where
+  pub named : Named desk time (o .place)
+  pub row : length (o .row) ≡ length (s .row)
+  pub marks : length (o .marks) ≡ length (s .marks)
+  pub store : length (o .store) ≡ length (s .store)
+  pub new : o .place .used ≡ true → s .place .used ≡ false → Passed h
+
+-- six and the common use, where a new sample is neither refused 8 nor 9
+passes : (p : Place) (h : Shares) → p .used ≡ false → six p h ≡ false → usedUp p h ≡ false → Passed h
+unfolding six usedUp
+passes p h f a b = record { below = omega (arith, ge-of _ _ (no (p .used) false f refl ∙ a)); share = go (h .opens <? ownPlaces) refl }
+  where
+    go : (c : Bool) → (h .opens <? ownPlaces) ≡ c → (h .opens < ownPlaces) ⊎ (h .common ≢ common (h .desks))
+    go true e = inl (lt-of _ _ e)
+    go false e = inr (ne-of _ _ (no _ false e refl ∙ no (p .used) false f refl ∙ b))
+
+noted-length : (store : List ℕ) (newest sidx : ℕ) (d : List ℕ) → length (noted store newest sidx d .store) ≡ length store
+unfolding noted
+noted-length store newest sidx d =
+    each L _ _ _ (λ q. refl)
+    (λ q. each L _ _ _ (λ q. refl)
+    (λ q. each L _ _ _ (λ q. refl) (λ q. each L _ _ _ (λ q. refl) (λ q. stored-length newest (S.moved newest sidx) store sidx d))))
+  where
+    L : S.After → Type 0
+    L a = length (a .store) ≡ length store
+
+module _ (h : Shares) (s : Own) (desk time : ℕ) (named : Named desk time (s .place)) where
+  same : s .place .used ≡ true → s .place .used ≡ false → Passed h
+  same u f = absurd (true≢false (sym u ∙ f))
+
+  none : closed .used ≡ true → s .place .used ≡ false → Passed h
+  none u f = absurd (true≢false (sym u ∙ closed-free closed refl))
+
+  stay-leaves : Leaves h s desk time s
+  stay-leaves = record { named = named; row = refl; marks = refl; store = refl; new = same }
+
+  finish-leaves : (p : Place) (o : List ℕ) → Named desk time p → (p .used ≡ true → s .place .used ≡ false → Passed h) → Leaves h s desk time (finish s time p o)
+  finish-leaves p o n k = record {
+    named = n;
+    row = length-kept (s .row) (inUse (s .marks)) time;
+    marks = length-set (s .marks) 0 _;
+    store = refl;
+    new = k;
+  }
+
+  abbrev L : After → Type 0
+  L a = Leaves h s desk time (a .own)
+
+  whole-leaves : (used : ℕ) (w : W.Whole) (d : List ℕ) → L (wholeTaken s time used w d)
+  unfolding wholeTaken
+  whole-leaves used w d =
+      each L _ _ _ (λ q. stay-leaves)
+      (λ q. each L _ _ _ (λ q. stay-leaves) (λ q. each L _ _ _ (λ q. stay-leaves) (λ q. finish-leaves (s .place) _ named same)))
+
+  completed-leaves : (used next : ℕ) (q : Place) → Named desk time q → (s .place .used ≡ false → Passed h) → L (completed s time used next q)
+  unfolding completed
+  completed-leaves used next q n k =
+      each L _ _ _ (λ e. record { named = n; row = refl; marks = refl; store = refl; new = λ u. k })
+      (λ e. each L _ _ _ (λ e. finish-leaves closed _ (closed-named desk time) none) (λ e. finish-leaves closed _ (closed-named desk time) none))
+
+  -- q is the sample that the part belongs to
+  joining-leaves : (used next : ℕ) (q : Place) (x : P.Part) (d : List ℕ) → Named desk time (kept q x d) → L (joining h s time used next q x d)
+  unfolding joining
+  joining-leaves used next q x d n =
+      each L _ _ _ (λ e. stay-leaves)
+      (λ e. each L _ _ _ (λ e. stay-leaves)
+      (λ e. each L _ _ _ (λ e. stay-leaves)
+      (λ e. each L _ _ _ (λ e. stay-leaves)
+      (λ e. each L _ _ _ (λ e. stay-leaves)
+      (λ a. each L _ _ _ (λ e. stay-leaves) (λ b. completed-leaves used next (kept q x d) n (λ f. passes (s .place) h f a b)))))))
+
+  sample-open : (x : P.Part) → (sampleOf (s .place) desk time x .used ≡ true) × ((sampleOf (s .place) desk time x .desk ≡ desk) × (sampleOf (s .place) desk time x .time ≡ time))
+  unfolding sampleOf bare
+  sample-open x =
+      each (λ (q : Place). (q .used ≡ true) × ((q .desk ≡ desk) × (q .time ≡ time))) _ _ _ (λ u. (u, named .name u)) (λ u. (refl, (refl, refl)))
+
+  kept-named : (x : P.Part) (d : List ℕ) → Named desk time (kept (sampleOf (s .place) desk time x) x d)
+  kept-named x d =
+      let q = sampleOf (s .place) desk time x in
+      let e = keep-named q x d in
+      let o = sample-open x in
+      record {
+        name = λ u. (ap (λ (n : Name). n .desk) e ∙ o .1 .0, ap (λ (n : Name). n .time) e ∙ o .1 .1);
+        free = λ f. absurd (true≢false (sym (o .0) ∙ sym (ap (λ (n : Name). n .used) e) ∙ f));
+      }
+
+  taken-leaves : (used : ℕ) (rest : List ℕ) (x : Unit) → L (taken h s desk time used rest x)
+  unfolding descriptionTaken
+  taken-leaves used rest End = stay-leaves
+  taken-leaves used rest (Skipped t) = stay-leaves
+  taken-leaves used rest (Refused r) = stay-leaves
+  taken-leaves used rest (Whole w) = whole-leaves used w (dataOf rest (Whole w))
+  taken-leaves used rest (Part x) = joining-leaves used _ _ x (dataOf rest (Part x)) (kept-named x (dataOf rest (Part x)))
+  taken-leaves used rest (Description w) = record {
+    named = named;
+    row = refl;
+    marks = length-set (s .marks) 1 _;
+    store = noted-length (s .store) _ (w .sidx) (dataOf rest (Description w));
+    new = same;
+  }
+
+  pub ordered-leaves : (one : Bool) (rest : List ℕ) → Leaves h s desk time (ordered one h s desk time rest .own)
+  unfolding ordered received
+  ordered-leaves one rest =
+      each L _ _ _ (λ e. stay-leaves) (λ e. each L _ _ _ (λ e. stay-leaves) (λ e. taken-leaves (readOf rest .used) rest (readOf rest .unit)))
+
+  pub yielded-leaves : (one : Bool) → Leaves h s desk time (yielded one s time .own)
+  unfolding yielded givenUp
+  yielded-leaves one = each G _ _ _ (λ e. stay-leaves) (λ e. each G _ _ _ (λ u. finish-leaves closed _ (closed-named desk time) none) (λ u. stay-leaves))
+    where
+      G : Given → Type 0
+      G g = Leaves h s desk time (g .own)

@@ -1,0 +1,8 @@
+pub mod Places
+pub mod Fair
+pub mod Leaves
+pub mod Good
+pub mod View
+pub mod Lifted
+pub mod Served
+pub mod Determined

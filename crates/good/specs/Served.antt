@@ -1,0 +1,90 @@
+-- A desk with fewer than two open samples always gets a place: it is answered neither 8 nor 9, whatever the tables are. That the place
+-- is there in good tables, `receive-stands` says. Assumes nothing.
+use Prim.Native.Nat.{ℕ, _<_}
+use native.Mathlib.Omega.{arith}
+use mathlib.Core.Path.{_≡_, refl, sym, ap, _∙_}
+use mathlib.Core.Bool.{Bool, true, false, true≢false}
+use mathlib.Core.Logic.{⊎-elim, _≢_}
+use mathlib.Core.List.{List}
+use Rattle.laws.specs.Rows.{each, ge, ge-of}
+use Rattle.laws.specs.Table.{count}
+use Rattle.paper.specs.Limits.{ownPlaces}
+use Rattle.paper.specs.Words.{numberOf, kindOf}
+use Rattle.paper.specs.declared.Refusal.{Refusal}
+use Rattle.paper.specs.declared.Refusal.the-variants as R
+use Rattle.paper.specs.declared.Outcome.{Outcome}
+use Rattle.paper.specs.declared.Outcome.the-variants as O
+use Rattle.unit.specs.declared.Unit.{Unit}
+use Rattle.unit.specs.declared.Unit.the-variants.{End, Skipped, Refused, Whole, Part, Description}
+use Rattle.unit.specs.Layout.{readOf}
+use Rattle.unit.specs.Reads.{Known, reads-known}
+use Rattle.sample.specs.declared.Place.{Place}
+use Rattle.style.specs.Store.{noted}
+use Rattle.style.specs.Store as S
+use Rattle.desk.specs.declared.Shares.{Shares}
+use Rattle.desk.specs.Desk.{Own, After, wholeTaken, six, usedUp, completed, joining, descriptionTaken, taken, received}
+use Rattle.table.specs.Table.{mine}
+use Rattle.relay.specs.Relay.{Tables, within, ownOf, sharesOf, ordered, receivedAt}
+
+-- neither 8 nor 9
+abbrev pub Serves : Outcome → Type 0
+Serves x = (r : Refusal) → x ≡ O.Refused r → (numberOf r ≢ 8) × (numberOf r ≢ 9)
+
+other : (r : Refusal) → (numberOf r ≢ 8) × (numberOf r ≢ 9) → Serves (O.Refused r)
+other r k r' e = let q : numberOf r ≡ numberOf r' = cc in rw (← q) k
+
+told : (x : Outcome) → kindOf x < 7 → Serves x
+told x k r e = absurd (omega (arith, ap kindOf e))
+
+abbrev Served : After → Type 0
+Served a = Serves (a .answer .outcome)
+
+not-six : (p : Place) (h : Shares) → h .opens < ownPlaces → six p h ≡ false
+unfolding six
+not-six p h k = each (λ (b : Bool). b ≡ false) _ _ _ (λ u. refl) (λ u. ge _ _ (omega arith))
+
+not-used-up : (p : Place) (h : Shares) → h .opens < ownPlaces → usedUp p h ≡ false
+unfolding usedUp
+not-used-up p h k =
+    each (λ (b : Bool). b ≡ false) _ _ _ (λ u. refl)
+    (λ u. each (λ (b : Bool). b ≡ false) _ _ _ (λ l. refl) (λ l. absurd (omega (arith, ge-of _ _ l))))
+
+completed-served : (s : Own) (time used next : ℕ) (q : Place) → Served (completed s time used next q)
+unfolding completed
+completed-served s time used next q =
+    each Served _ _ _ (λ e. told _ (omega arith))
+    (λ e. each Served _ _ _ (λ e. told _ (omega arith)) (λ e. other R.Spoiled (omega arith)))
+
+taken-served : (h : Shares) (s : Own) (desk time used : ℕ) (rest : List ℕ) → h .opens < ownPlaces → (x : Unit) → Known x → Served (taken h s desk time used rest x)
+unfolding wholeTaken joining descriptionTaken noted
+taken-served h s desk time used rest k End w = told O.End (omega arith)
+taken-served h s desk time used rest k (Skipped t) w = told (O.Skipped t) (omega arith)
+taken-served h s desk time used rest k (Refused r) w =
+    other r (⊎-elim (λ e. omega (arith, ap numberOf e)) (λ e. omega (arith, ap numberOf e)) w)
+taken-served h s desk time used rest k (Whole x) w =
+    each Served _ _ _ (λ e. other R.Late (omega arith))
+    (λ e. each Served _ _ _ (λ e. other R.Conflict (omega arith))
+    (λ e. each Served _ _ _ (λ e. other R.Size (omega arith)) (λ e. told _ (omega arith))))
+taken-served h s desk time used rest k (Part x) w =
+    each Served _ _ _ (λ e. other R.Late (omega arith))
+    (λ e. each Served _ _ _ (λ e. told O.Repeat (omega arith))
+    (λ e. each Served _ _ _ (λ e. other R.Conflict (omega arith))
+    (λ e. each Served _ _ _ (λ e. other R.Size (omega arith))
+    (λ e. each Served _ _ _ (λ e. absurd (true≢false (sym e ∙ not-six (s .place) h k)))
+    (λ e. each Served _ _ _ (λ e. absurd (true≢false (sym e ∙ not-used-up (s .place) h k))) (λ e. completed-served s time used _ _))))))
+taken-served h s desk time used rest k (Description x) w =
+    each N _ _ _ (λ e. other R.Fields (omega arith))
+    (λ e. each N _ _ _ (λ e. other R.Size (omega arith))
+    (λ e. each N _ _ _ (λ e. told O.Repeat (omega arith))
+    (λ e. each N _ _ _ (λ e. other R.Conflict (omega arith)) (λ e. told O.Described (omega arith)))))
+  where
+    N : S.After → Type 0
+    N a = Serves (a .answer .outcome)
+
+pub served : (n : ℕ) (s : Tables) (desk time : ℕ) (rest out : List ℕ) → count (mine desk) (within n s) < ownPlaces
+    → Serves (receivedAt n s desk time rest out .answer .outcome)
+unfolding receivedAt ordered received
+served n s desk time rest out k =
+    each Served _ _ _ (λ e. other R.Desk (omega arith))
+    (λ e. each Served _ _ _ (λ e. other R.Output (omega arith))
+    (λ e. taken-served (sharesOf n desk (within n s)) (ownOf n s desk time out) desk time (readOf rest .used) rest k (readOf rest .unit) (reads-known rest)))

@@ -1,0 +1,1 @@
+// No code: what every call of the relay keeps to.

@@ -1,0 +1,162 @@
+-- One law for each way that the relay's steps return, in the code's own values. Assumes nothing.
+use Prim.Native.Nat.{ℕ, _+_, _-_, _*_, _≤_, _<_}
+use native.Mathlib.Omega.{arith}
+use mathlib.Core.Path.{_≡_, refl, sym, ap, _∙_}
+use mathlib.Core.Bool.{Bool, true, false, not}
+use mathlib.Core.List.{List, []}
+use lib.ListN.{length, getD, take, drop}
+use lib.Seq.{getD-take, getD-drop}
+use Rattle.laws.specs.Rows.{_or_, _<?_, yes, no, lt, ge, lt-of, ge-of, or-none}
+use Rattle.laws.specs.Region.{part, splice, splice-part}
+use Rattle.paper.specs.Limits.{sampleMost}
+use Rattle.paper.specs.declared.Refusal.{Refusal}
+use Rattle.paper.specs.declared.Refusal.the-variants as R
+use Rattle.paper.specs.declared.Outcome.the-variants as O
+use Rattle.sample.specs.declared.Place.{Place}
+use Rattle.style.specs.Shown.{shown}
+use Rattle.desk.specs.declared.Shares.{Shares}
+use Rattle.desk.specs.declared.Turn.{Turn}
+use Rattle.desk.specs.declared.Freeing.{Freeing}
+use Rattle.desk.specs.declared.GivenUp.the-variants as G
+use Rattle.desk.specs.Desk.{Own, own, refuse, told, left, freed, newestOf, received, givenUp}
+use Rattle.table.specs.declared.Seen.{Seen}
+use Rattle.relay.specs.Relay.{rowOf, marksOf, storeOf, improper, stranger, short, lacks, lacksThree, ordered, yielded, lookedUp}
+use Rattle.relay.specs.Plan.{sharesSeen, plan, planOf, planned, yield, yieldOf, yielding}
+
+either : (a b : Bool) → a ≡ true → (a or b) ≡ true
+either a b h = sym (yes a b h refl)
+
+other : (a b c : Bool) → a ≡ false → b ≡ c → (a or b) ≡ c
+other a b c h k = sym (no a true h (sym k))
+
+-- a part s[a..a + k] of k elements
+widths : (a k : ℕ) → a + k - a ≡ k
+widths a k = omega arith
+
+-- ---- receive
+module _ (n len : ℕ) (e : Seen) (p : Place) (rows marks stores out : List ℕ) (desk time : ℕ) (rest : List ℕ) where
+  abbrev its : Own
+  its = own p (rowOf desk rows) (marksOf desk marks) (storeOf desk stores) out
+
+  -- what is refused is put back as it was
+  back : (r : Refusal) → plan (told p 0 time (O.Refused r)) rows marks stores out ≡ planOf desk rows marks stores (refuse its 0 time r)
+  back r = rw (splice-part (16 * desk) 16 rows, splice-part (2 * desk) 2 marks, splice-part (16640 * desk) 16640 stores)
+
+  module _ (b : Bool) (f : b ≡ stranger n desk) where
+    pub step-stranger : b ≡ true → (t : Turn) → t ≡ told p 0 time (O.Refused R.Desk)
+        → plan t rows marks stores out ≡ planned n len e p rows marks stores out desk time rest
+    unfolding planned ordered
+    step-stranger h t k =
+        ap (λ (u : Turn). plan u rows marks stores out) k ∙ back R.Desk
+        ∙ ap (planOf desk rows marks stores) (yes _ _ (either _ _ (sym f ∙ h)) refl)
+
+    module _ (known : b ≡ false) (d : Bool) (g : d ≡ lacks n len (length rows) (length marks) (length stores)) where
+      pub step-lacking : d ≡ true → (t : Turn) → t ≡ told p 0 time (O.Refused R.Desk)
+          → plan t rows marks stores out ≡ planned n len e p rows marks stores out desk time rest
+      unfolding planned ordered
+      step-lacking h t k =
+          ap (λ (u : Turn). plan u rows marks stores out) k ∙ back R.Desk
+          ∙ ap (planOf desk rows marks stores) (yes _ _ (other _ _ _ (sym f ∙ known) (sym g ∙ h)) refl)
+
+      module _ (enough : d ≡ false) where
+        pub step-output : length out < sampleMost → (t : Turn) → t ≡ told p 0 time (O.Refused R.Output)
+            → plan t rows marks stores out ≡ planned n len e p rows marks stores out desk time rest
+        unfolding planned ordered
+        step-output h t k =
+            ap (λ (u : Turn). plan u rows marks stores out) k ∙ back R.Output
+            ∙ ap (planOf desk rows marks stores) (no _ _ (other _ _ _ (sym f ∙ known) (sym g ∙ enough)) (yes _ _ (lt _ _ h) refl))
+
+        pub step-through : sampleMost ≤ length out → (h : Shares) → h ≡ sharesSeen e n desk → (t : Turn) (row′ marks′ store′ out′ : List ℕ)
+            → left t row′ marks′ store′ out′
+            ≡ received h (own p (part (16 * desk) (16 * desk + 16 - 16 * desk) rows) (part (2 * desk) (2 * desk + 2 - 2 * desk) marks)
+            (part (16640 * desk) (16640 * desk + 16640 - 16640 * desk) stores) out) desk time rest
+            → plan t (splice (16 * desk) (16 * desk + 16 - 16 * desk) row′ rows) (splice (2 * desk) (2 * desk + 2 - 2 * desk) marks′ marks)
+            (splice (16640 * desk) (16640 * desk + 16640 - 16640 * desk) store′ stores) out′
+            ≡ planned n len e p rows marks stores out desk time rest
+        unfolding planned ordered
+        step-through l h k t row′ marks′ store′ out′ q =
+            let q′ : left t row′ marks′ store′ out′ ≡ received (sharesSeen e n desk) its desk time rest =
+            rw (widths (16 * desk) 16, widths (2 * desk) 2, widths (16640 * desk) 16640, k) at q in
+            rw (widths (16 * desk) 16, widths (2 * desk) 2, widths (16640 * desk) 16640)
+            (ap (planOf desk rows marks stores)
+            (q′ ∙ no _ _ (other _ _ _ (sym f ∙ known) (sym g ∙ enough)) (no _ _ (ge _ _ l) refl)))
+
+-- ---- give-up
+module _ (n len : ℕ) (p : Place) (rows marks : List ℕ) (desk time : ℕ) where
+  abbrev hers : Own
+  hers = own p (rowOf desk rows) (marksOf desk marks) [] []
+
+  held : yield (record { place = p; answer = G.Refused R.Desk }) rows marks ≡ yieldOf desk rows marks (record { own = hers; answer = G.Refused R.Desk })
+  held = rw (splice-part (16 * desk) 16 rows, splice-part (2 * desk) 2 marks)
+
+  module _ (b : Bool) (f : b ≡ stranger n desk) where
+    pub yield-stranger : b ≡ true → (r : Freeing) → r ≡ record { place = p; answer = G.Refused R.Desk } → yield r rows marks ≡ yielding n len p rows marks desk time
+    unfolding yielding yielded
+    yield-stranger h r k =
+        ap (λ (u : Freeing). yield u rows marks) k ∙ held ∙ ap (yieldOf desk rows marks) (yes _ _ (either _ _ (sym f ∙ h)) refl)
+
+    module _ (known : b ≡ false) (d : Bool) (g : d ≡ lacksThree n len (length rows) (length marks)) where
+      pub yield-lacking : d ≡ true → (r : Freeing) → r ≡ record { place = p; answer = G.Refused R.Desk } → yield r rows marks ≡ yielding n len p rows marks desk time
+      unfolding yielding yielded
+      yield-lacking h r k =
+          ap (λ (u : Freeing). yield u rows marks) k ∙ held
+          ∙ ap (yieldOf desk rows marks) (yes _ _ (other _ _ _ (sym f ∙ known) (sym g ∙ h)) refl)
+
+      pub yield-through : d ≡ false → (r : Freeing) (row′ marks′ : List ℕ)
+          → ((store out : List ℕ) → freed r row′ marks′ store out
+          ≡ givenUp (own p (part (16 * desk) (16 * desk + 16 - 16 * desk) rows) (part (2 * desk) (2 * desk + 2 - 2 * desk) marks) store out) time)
+          → yield r (splice (16 * desk) (16 * desk + 16 - 16 * desk) row′ rows) (splice (2 * desk) (2 * desk + 2 - 2 * desk) marks′ marks)
+          ≡ yielding n len p rows marks desk time
+      unfolding yielding yielded
+      yield-through enough r row′ marks′ q =
+          let q′ : freed r row′ marks′ [] [] ≡ givenUp hers time = rw (widths (16 * desk) 16, widths (2 * desk) 2) at (q [] []) in
+          rw (widths (16 * desk) 16, widths (2 * desk) 2)
+          (ap (yieldOf desk rows marks) (q′ ∙ no _ _ (other _ _ _ (sym f ∙ known) (sym g ∙ enough)) refl))
+
+-- ---- what the tests tell of the sizes
+pub proper : (n desk : ℕ) → stranger n desk ≡ false → (n ≤ 8) × (desk < n)
+unfolding stranger improper
+proper n desk h =
+    let k = or-none _ _ h in
+    (ge-of 8 n (or-none _ _ (k .0) .1), lt-of desk n (go (desk <? n) (k .1)))
+  where
+    go : (b : Bool) → not b ≡ false → b ≡ true
+    go true e = refl
+    go false e = sym e
+
+pub long : (each n have : ℕ) → short each n have ≡ false → each * n ≤ have
+unfolding short
+long each n have h = ge-of have (each * n) h
+
+pub three-long : (n places rows marks : ℕ) → lacksThree n places rows marks ≡ false → (4 * n ≤ places) × ((16 * n ≤ rows) × (2 * n ≤ marks))
+three-long n places rows marks h =
+    let a = or-none _ _ h in
+    let b = or-none _ _ (a .1) in
+    (long 4 n places (a .0), (long 16 n rows (b .0), long 2 n marks (b .1)))
+
+pub all-long : (n places rows marks stores : ℕ) → lacks n places rows marks stores ≡ false
+    → ((4 * n ≤ places) × ((16 * n ≤ rows) × (2 * n ≤ marks))) × (16640 * n ≤ stores)
+all-long n places rows marks stores h = let a = or-none _ _ h in (three-long n places rows marks (a .0), long 16640 n stores (a .1))
+
+-- ---- lookup
+module _ (n : ℕ) (marks stores : List ℕ) (desk index : ℕ) (book : List ℕ) (b : Bool) (f : b ≡ stranger n desk) where
+  pub look-stranger : b ≡ true → [] ≡ lookedUp n marks stores desk index book
+  unfolding lookedUp
+  look-stranger h = yes _ _ (either _ _ (sym f ∙ h)) refl
+
+  module _ (known : b ≡ false) (d : Bool) (g : d ≡ short 2 n (length marks)) where
+    pub look-marks : d ≡ true → [] ≡ lookedUp n marks stores desk index book
+    unfolding lookedUp
+    look-marks h = yes _ _ (other _ _ _ (sym f ∙ known) (either _ _ (sym g ∙ h))) refl
+
+    module _ (enough : d ≡ false) (m : Bool) (w : m ≡ short 16640 n (length stores)) where
+      pub look-stores : m ≡ true → [] ≡ lookedUp n marks stores desk index book
+      unfolding lookedUp
+      look-stores h = yes _ _ (other _ _ _ (sym f ∙ known) (other _ _ _ (sym g ∙ enough) (sym w ∙ h))) refl
+
+      pub look-through : m ≡ false → (r store : List ℕ) (newest : ℕ) → store ≡ part (16640 * desk) 16640 stores → newest ≡ getD marks (2 * desk + 1) 0
+          → r ≡ shown book store newest index → r ≡ lookedUp n marks stores desk index book
+      unfolding lookedUp
+      look-through h r store newest x y z =
+          let v : newestOf (marksOf desk marks) ≡ newest = getD-take 2 (drop (2 * desk) marks) 1 0 (omega arith) ∙ getD-drop (2 * desk) marks 1 0 ∙ sym y in
+          no _ _ (other _ _ _ (sym f ∙ known) (other _ _ _ (sym g ∙ enough) (sym w ∙ h))) (z ∙ rw (x, v))
