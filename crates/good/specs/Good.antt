@@ -50,7 +50,7 @@ unfolding short
 no-lack n s g = sym (no _ true (no-lack-three n s g) (sym (ge _ _ (g .stores))))
 
 -- ---- set-up
-front : (n : ℕ) (l : List Place) → n ≤ length l → take n (sets l 0 (replicate n closed)) ≡ replicate n closed
+pub front : (n : ℕ) (l : List Place) → n ≤ length l → take n (sets l 0 (replicate n closed)) ≡ replicate n closed
 front n l h =
     let k = length-replicate n closed in
     ap (take n) (sets-eq (replicate n closed) l 0 (omega arith)) ∙ take-at (replicate n closed) _ n k

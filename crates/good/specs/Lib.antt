@@ -5,4 +5,5 @@ pub mod Good
 pub mod View
 pub mod Lifted
 pub mod Served
+pub mod Fresh
 pub mod Determined

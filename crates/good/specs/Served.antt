@@ -1,14 +1,15 @@
--- A desk with fewer than two open samples always gets a place: it is answered neither 8 nor 9, whatever the tables are. That the place
--- is there in good tables, `receive-stands` says. Assumes nothing.
+-- Whom the shares let through is answered neither 8 nor 9, and a desk with fewer than two open samples always is, whatever the tables
+-- are. That the place is there in good tables, `receive-stands` says. Assumes nothing.
 use Prim.Native.Nat.{ℕ, _<_}
 use native.Mathlib.Omega.{arith}
 use mathlib.Core.Path.{_≡_, refl, sym, ap, _∙_}
-use mathlib.Core.Bool.{Bool, true, false, true≢false}
-use mathlib.Core.Logic.{⊎-elim, _≢_}
+use mathlib.Core.Bool.{Bool, true, false, not, true≢false}
+use mathlib.Core.Logic.{inl, ⊎-elim, _≢_}
 use mathlib.Core.List.{List}
-use Rattle.laws.specs.Rows.{each, ge, ge-of}
+use lib.ListN.{length}
+use Rattle.laws.specs.Rows.{_or_, _<?_, each, no, ge, ne, ge-of}
 use Rattle.laws.specs.Table.{count}
-use Rattle.paper.specs.Limits.{ownPlaces}
+use Rattle.paper.specs.Limits.{sampleMost, ownPlaces}
 use Rattle.paper.specs.Words.{numberOf, kindOf}
 use Rattle.paper.specs.declared.Refusal.{Refusal}
 use Rattle.paper.specs.declared.Refusal.the-variants as R
@@ -23,8 +24,10 @@ use Rattle.style.specs.Store.{noted}
 use Rattle.style.specs.Store as S
 use Rattle.desk.specs.declared.Shares.{Shares}
 use Rattle.desk.specs.Desk.{Own, After, wholeTaken, six, usedUp, completed, joining, descriptionTaken, taken, received}
+use Rattle.desk.specs.Effects.{asksPart, asks}
 use Rattle.table.specs.Table.{mine}
-use Rattle.relay.specs.Relay.{Tables, within, ownOf, sharesOf, ordered, receivedAt}
+use Rattle.relay.specs.Relay.{Tables, within, ownOf, sharesOf, stranger, lacking, ordered, receivedAt}
+use Rattle.good.specs.Fair.{Passed}
 
 -- neither 8 nor 9
 abbrev pub Serves : Outcome → Type 0
@@ -39,15 +42,17 @@ told x k r e = absurd (omega (arith, ap kindOf e))
 abbrev Served : After → Type 0
 Served a = Serves (a .answer .outcome)
 
-not-six : (p : Place) (h : Shares) → h .opens < ownPlaces → six p h ≡ false
+-- what the shares let through is neither refused 8 nor 9; an open sample is not asked
+not-six : (p : Place) (h : Shares) → (p .used ≡ false → Passed h) → six p h ≡ false
 unfolding six
-not-six p h k = each (λ (b : Bool). b ≡ false) _ _ _ (λ u. refl) (λ u. ge _ _ (omega arith))
+not-six p h k = each (λ (b : Bool). b ≡ false) _ _ _ (λ u. refl) (λ u. ge _ _ (omega (arith, k u .below)))
 
-not-used-up : (p : Place) (h : Shares) → h .opens < ownPlaces → usedUp p h ≡ false
+not-used-up : (p : Place) (h : Shares) → (p .used ≡ false → Passed h) → usedUp p h ≡ false
 unfolding usedUp
 not-used-up p h k =
     each (λ (b : Bool). b ≡ false) _ _ _ (λ u. refl)
-    (λ u. each (λ (b : Bool). b ≡ false) _ _ _ (λ l. refl) (λ l. absurd (omega (arith, ge-of _ _ l))))
+    (λ u. each (λ (b : Bool). b ≡ false) _ _ _ (λ l. refl)
+    (λ l. ⊎-elim (λ m. absurd (omega (arith, ge-of _ _ l))) (λ m. ne _ _ m) (k u .share)))
 
 completed-served : (s : Own) (time used next : ℕ) (q : Place) → Served (completed s time used next q)
 unfolding completed
@@ -55,24 +60,28 @@ completed-served s time used next q =
     each Served _ _ _ (λ e. told _ (omega arith))
     (λ e. each Served _ _ _ (λ e. told _ (omega arith)) (λ e. other R.Spoiled (omega arith)))
 
-taken-served : (h : Shares) (s : Own) (desk time used : ℕ) (rest : List ℕ) → h .opens < ownPlaces → (x : Unit) → Known x → Served (taken h s desk time used rest x)
-unfolding wholeTaken joining descriptionTaken noted
-taken-served h s desk time used rest k End w = told O.End (omega arith)
-taken-served h s desk time used rest k (Skipped t) w = told (O.Skipped t) (omega arith)
-taken-served h s desk time used rest k (Refused r) w =
+taken-served : (h : Shares) (s : Own) (desk time used : ℕ) (rest : List ℕ) (x : Unit) → (asks s desk time rest x ≡ true → Passed h) → Known x
+    → Served (taken h s desk time used rest x)
+unfolding wholeTaken asksPart joining descriptionTaken noted
+taken-served h s desk time used rest End k w = told O.End (omega arith)
+taken-served h s desk time used rest (Skipped t) k w = told (O.Skipped t) (omega arith)
+taken-served h s desk time used rest (Refused r) k w =
     other r (⊎-elim (λ e. omega (arith, ap numberOf e)) (λ e. omega (arith, ap numberOf e)) w)
-taken-served h s desk time used rest k (Whole x) w =
+taken-served h s desk time used rest (Whole x) k w =
     each Served _ _ _ (λ e. other R.Late (omega arith))
     (λ e. each Served _ _ _ (λ e. other R.Conflict (omega arith))
     (λ e. each Served _ _ _ (λ e. other R.Size (omega arith)) (λ e. told _ (omega arith))))
-taken-served h s desk time used rest k (Part x) w =
+taken-served h s desk time used rest (Part x) k w =
     each Served _ _ _ (λ e. other R.Late (omega arith))
-    (λ e. each Served _ _ _ (λ e. told O.Repeat (omega arith))
-    (λ e. each Served _ _ _ (λ e. other R.Conflict (omega arith))
-    (λ e. each Served _ _ _ (λ e. other R.Size (omega arith))
-    (λ e. each Served _ _ _ (λ e. absurd (true≢false (sym e ∙ not-six (s .place) h k)))
-    (λ e. each Served _ _ _ (λ e. absurd (true≢false (sym e ∙ not-used-up (s .place) h k))) (λ e. completed-served s time used _ _))))))
-taken-served h s desk time used rest k (Description x) w =
+    (λ f₁. each Served _ _ _ (λ e. told O.Repeat (omega arith))
+    (λ f₂. each Served _ _ _ (λ e. other R.Conflict (omega arith))
+    (λ f₃. each Served _ _ _ (λ e. other R.Size (omega arith))
+    (λ f₄.
+    let p : s .place .used ≡ false → Passed h =
+    (λ u. k (sym (no _ _ f₁ (no _ _ f₂ (no _ _ f₃ (no _ _ f₄ (sym (ap not u)))))))) in
+    each Served _ _ _ (λ e. absurd (true≢false (sym e ∙ not-six (s .place) h p)))
+    (λ e. each Served _ _ _ (λ e. absurd (true≢false (sym e ∙ not-used-up (s .place) h p))) (λ e. completed-served s time used _ _))))))
+taken-served h s desk time used rest (Description x) k w =
     each N _ _ _ (λ e. other R.Fields (omega arith))
     (λ e. each N _ _ _ (λ e. other R.Size (omega arith))
     (λ e. each N _ _ _ (λ e. told O.Repeat (omega arith))
@@ -81,10 +90,19 @@ taken-served h s desk time used rest k (Description x) w =
     N : S.After → Type 0
     N a = Serves (a .answer .outcome)
 
-pub served : (n : ℕ) (s : Tables) (desk time : ℕ) (rest out : List ℕ) → count (mine desk) (within n s) < ownPlaces
+-- a call that does not reach the test of the shares, or that they let through, is answered neither 8 nor 9
+pub let-through : (n : ℕ) (s : Tables) (desk time : ℕ) (rest out : List ℕ)
+    → ((stranger n desk or lacking n s) ≡ false → (length out <? sampleMost) ≡ false
+    → asks (ownOf n s desk time out) desk time rest (readOf rest .unit) ≡ true → Passed (sharesOf n desk (within n s)))
     → Serves (receivedAt n s desk time rest out .answer .outcome)
 unfolding receivedAt ordered received
-served n s desk time rest out k =
+let-through n s desk time rest out k =
     each Served _ _ _ (λ e. other R.Desk (omega arith))
-    (λ e. each Served _ _ _ (λ e. other R.Output (omega arith))
-    (λ e. taken-served (sharesOf n desk (within n s)) (ownOf n s desk time out) desk time (readOf rest .used) rest k (readOf rest .unit) (reads-known rest)))
+    (λ a. each Served _ _ _ (λ e. other R.Output (omega arith))
+    (λ b.
+    taken-served (sharesOf n desk (within n s)) (ownOf n s desk time out) desk time (readOf rest .used) rest (readOf rest .unit) (k a b)
+    (reads-known rest)))
+
+pub served : (n : ℕ) (s : Tables) (desk time : ℕ) (rest out : List ℕ) → count (mine desk) (within n s) < ownPlaces
+    → Serves (receivedAt n s desk time rest out .answer .outcome)
+served n s desk time rest out k = let-through n s desk time rest out (λ a b c. record { below = omega arith; share = inl k })

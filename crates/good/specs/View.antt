@@ -117,7 +117,7 @@ module _ (n : ℕ) (s : Tables) (g : Good n s) (desk time : ℕ) where
   pub give-up-beyond : Beyond n s (givenUpAt n s desk time .tables)
   give-up-beyond = give-up-each n s desk time (Beyond n s) (unchanged n s) (λ h o k. put-beyond n s desk time [] o g h k)
 
-fresh-length : (n : ℕ) → length (freshMarks n) ≡ marksEach * n
+pub fresh-length : (n : ℕ) → length (freshMarks n) ≡ marksEach * n
 unfolding freshMarks
 fresh-length zero = refl
 fresh-length (suc n) = omega (arith, fresh-length n)

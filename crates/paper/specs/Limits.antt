@@ -45,6 +45,10 @@ openMost = 6
 abbrev pub placesEach : ℕ
 placesEach = 4
 
+-- what eight desks need
+abbrev pub placesMost : ℕ
+placesMost = 32
+
 abbrev pub marksEach : ℕ
 marksEach = 2
 

@@ -19,6 +19,8 @@ pub const DESKS_MOST: usize = 8;
 
 pub const PLACES_EACH: usize = 4;
 
+pub const PLACES_MOST: usize = 32;
+
 pub const MARKS_EACH: usize = 2;
 
 pub const STORE_SIZE: usize = 16640;

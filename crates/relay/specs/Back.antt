@@ -11,7 +11,7 @@ use Rattle.laws.specs.Rows.{_⇒_⁏_, _or_, each, no, ge, lt-of, ge-of, or-non
 use Rattle.laws.specs.Region.{splice, splice-part}
 use Rattle.laws.specs.Table.{seek, count}
 use Rattle.laws.specs.Sums.{sum-same}
-use Rattle.laws.specs.Lists.{listed, getD-listed}
+use Rattle.laws.specs.Lists.{getD-listed}
 use Rattle.paper.specs.Limits.{placesEach, finishedMost, marksEach, storeSize, desksMost, ownPlaces, places}
 use Rattle.sample.specs.declared.Place.{Place}
 use Rattle.sample.specs.Place.{bare, closed}
@@ -205,3 +205,11 @@ module _ (n : ℕ) (s : Tables) (desk time : ℕ) where
           let p = proper n desk (a .0) in
           let l = three-long n (length (s .places)) (length (s .rows)) (length (s .marks)) (a .1) in
           rw (sample-is (p .0)) (let-go-is (openAt desk time (within n s)) (p .0) (l .0))
+
+-- give-up does not look at the stores
+pub given-up-any : (n : ℕ) (l : List Place) (rows marks stores : List ℕ) (desk time : ℕ)
+    → let x = givenUpAt n (tables l rows marks []) desk time in
+    released (tables (x .tables .places) (x .tables .rows) (x .tables .marks) stores) (x .answer) ≡ givenUpAt n (tables l rows marks stores) desk time
+given-up-any n l rows marks stores desk time =
+    ap (λ (z : Released). released (tables (z .tables .places) (z .tables .rows) (z .tables .marks) stores) (z .answer)) (sym (given-up-is n (tables l rows marks []) desk time))
+    ∙ given-up-is n (tables l rows marks stores) desk time

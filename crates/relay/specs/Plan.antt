@@ -1,7 +1,6 @@
 -- The steps of a call in between: what one pass over the table tells the shares, and what a call leaves of everything but the table.
 -- Assumes nothing.
 use Prim.Native.Nat.{ℕ, _-_, _*_, _≤_}
-use mathlib.Core.Bool.{Bool}
 use mathlib.Core.List.{List, []}
 use lib.ListN.{length, getD}
 use Rattle.laws.specs.Rows.{_⇒_⁏_, _or_, _<?_, _=?_}

@@ -3,14 +3,12 @@ use Prim.Native.Nat.{ℕ, _*_, _≤_}
 use native.Mathlib.Omega.{arith}
 use mathlib.Core.Path.{_≡_, refl}
 use mathlib.Core.Bool.{Bool, true, false}
-use mathlib.Core.List.{List}
 use lib.ListN.{length, replicate}
 use lib.Seq.{sets}
 use Rattle.laws.specs.Rows.{_⇒_⁏_, _or_, _<?_, _=?_, each, eq, ge, ge-of, or-none}
 use Rattle.paper.specs.Limits.{finishedMost, desksMost, storeSize}
 use Rattle.paper.specs.declared.Refusal.the-variants as R
 use Rattle.table.specs.Table.{cleared}
-use Rattle.relay.specs.declared.Started.{Started}
 use Rattle.relay.specs.declared.Started.the-variants.{Ready, Refused}
 use Rattle.relay.specs.Relay.{Tables, tables, improper, lacking, Made, made, freshMarks, freshTables, setUp}
 use Rattle.relay.specs.Plan.{reachOf, fitting, startedOf}

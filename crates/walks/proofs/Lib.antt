@@ -1,3 +1,4 @@
 pub mod Steps
 pub mod Pieces
 pub mod Rows
+pub mod Lent

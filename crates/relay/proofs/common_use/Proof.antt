@@ -1,9 +1,9 @@
 -- `relay::common_use` meets its contract: each desk adds what it has beyond two.
 -- Assumes nothing.
-use Prim.Native.Nat.{_≤_, _-_, _*_, suc}
+use Prim.Native.Nat.{_≤_, _-_, _*_}
 use native.Mathlib.Omega.{arith}
 use native.Mathlib.Numerals.{add-one}
-use mathlib.Core.Path.{_≡_, refl, sym, ap, _∙_}
+use mathlib.Core.Path.{_≡_, refl, ap, _∙_}
 use Rattle.relay.specs.Plan.{commonSeen}
 use borrow.Author.Needs.{needs}
 use Rattle.relay.proofs.common_use.Statement.{statement}

@@ -1,6 +1,6 @@
 -- `relay::lookup` meets its contract: an empty part, or what the desk is shown. Assumes nothing.
 use native.Mathlib.Omega.{arith}
-use mathlib.Core.Path.{refl, sym, _∙_}
+use mathlib.Core.Path.{sym, _∙_}
 use denote.Ref.{now}
 use Rattle.relay.specs.Steps.{look-stranger, look-marks, look-stores, look-through, proper}
 use borrow.Author.Needs.{needs}

@@ -1,5 +1,4 @@
 -- `relay::shares_of` meets its contract. Assumes nothing.
-use mathlib.Core.Path.{refl}
 use borrow.Author.Needs.{needs}
 use Rattle.relay.proofs.shares_of.Statement.{statement}
 use Rattle.relay.proofs.shares_of.Tie as tie

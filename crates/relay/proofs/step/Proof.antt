@@ -1,7 +1,6 @@
 -- `relay::step` meets its contract: the refusals leave what the desk has, and else the desk settles it. Assumes nothing.
-use Prim.Native.Nat.{_*_}
 use native.Mathlib.Omega.{arith}
-use mathlib.Core.Path.{refl, sym, _∙_}
+use mathlib.Core.Path.{sym, _∙_}
 use denote.Ref.{now}
 use lib.ListN.{length}
 use Rattle.relay.specs.Steps.{step-stranger, step-lacking, step-output, step-through, proper, all-long}

@@ -1,5 +1,4 @@
 -- `relay::yield_step` meets its contract: the refusals leave what the desk has, and else the desk settles it. Assumes nothing.
-use Prim.Native.Nat.{_*_}
 use native.Mathlib.Omega.{arith}
 use mathlib.Core.Path.{refl, sym, _∙_}
 use denote.Ref.{now}

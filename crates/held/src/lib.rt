@@ -1,0 +1,93 @@
+// The relay over a table by value, for callers that keep it in a local: a function may be checked for its borrows only where no
+// reference to places is named, so the three that name one stand here.
+use desk::GivenUp;
+use paper::Answer;
+use paper::limits::PLACES_MOST;
+use relay::Relay;
+use relay::Started;
+use sample::Place;
+ghost use mathlib.Core.Path.{_≡_};
+ghost use mathlib.Core.List.{List};
+ghost use Prim.Native.Nat.{ℕ};
+ghost use Rattle.relay.specs.Relay.{tables, made, setUp, done, receivedAt, released, givenUpAt};
+ghost use Rattle.held.specs.Held.{begun, called, yielded};
+
+pub struct Begun {
+    pub places: [Place; PLACES_MOST],
+    pub answer: Started,
+}
+
+pub struct Called {
+    pub places: [Place; PLACES_MOST],
+    pub answer: Answer,
+}
+
+pub struct Yielded {
+    pub places: [Place; PLACES_MOST],
+    pub answer: GivenUp,
+}
+
+fn begun_of(places: [Place; PLACES_MOST], answer: Started) -> Begun
+    ensures { λ r. ⌜ r ≡ begun places answer ⌝ }
+{
+    Begun { places, answer }
+}
+
+fn called_of(places: [Place; PLACES_MOST], answer: Answer) -> Called
+    ensures { λ r. ⌜ r ≡ called places answer ⌝ }
+{
+    Called { places, answer }
+}
+
+fn yielded_of(places: [Place; PLACES_MOST], answer: GivenUp) -> Yielded
+    ensures { λ r. ⌜ r ≡ yielded places answer ⌝ }
+{
+    Yielded { places, answer }
+}
+
+pub fn set_up(
+    n: usize,
+    places: [Place; PLACES_MOST],
+    rows: &mut [u32],
+    marks: &mut [u32],
+    stores: &mut [u8],
+) -> Begun
+    ensures { λ r. ⌜ made (tables (r .places) (now (rows .exit)) (now (marks .exit)) (now (stores .exit))) (r .answer) ≡ setUp n (tables places (now (rows .entry)) (now (marks .entry)) (now (stores .entry))) ⌝ }
+{
+    let mut t = places;
+    let answer = relay::set_up(n, &mut t, rows, marks, stores);
+    begun_of(t, answer)
+}
+
+pub fn receive(
+    relay: Relay,
+    places: [Place; PLACES_MOST],
+    rows: &mut [u32],
+    marks: &mut [u32],
+    stores: &mut [u8],
+    desk: usize,
+    time: u32,
+    rest: &[u8],
+    out: &mut [u8],
+) -> Called
+    ensures { λ r. ⌜ done (tables (r .places) (now (rows .exit)) (now (marks .exit)) (now (stores .exit))) (now (out .exit)) (r .answer) ≡ receivedAt (relay .desks) (tables places (now (rows .entry)) (now (marks .entry)) (now (stores .entry))) desk time (now (rest .entry)) (now (out .entry)) ⌝ }
+{
+    let mut t = places;
+    let answer = relay::receive(relay, &mut t, rows, marks, stores, desk, time, rest, out);
+    called_of(t, answer)
+}
+
+pub fn give_up(
+    relay: Relay,
+    places: [Place; PLACES_MOST],
+    rows: &mut [u32],
+    marks: &mut [u32],
+    desk: usize,
+    time: u32,
+) -> Yielded
+    ensures { λ r. ⌜ ((stores : List ℕ) → released (tables (r .places) (now (rows .exit)) (now (marks .exit)) stores) (r .answer) ≡ givenUpAt (relay .desks) (tables places (now (rows .entry)) (now (marks .entry)) stores) desk time) ⌝ }
+{
+    let mut t = places;
+    let answer = relay::give_up(relay, &mut t, rows, marks, desk, time);
+    yielded_of(t, answer)
+}

@@ -1,0 +1,81 @@
+-- A run: a list of calls of any desks, one after the other, on the same tables; what each call gets; and what a desk has to keep to
+-- for the promise of its peace. Definitions only. Assumes nothing.
+use Prim.Native.Nat.{ℕ, _<_}
+use mathlib.Core.Path.{_≡_}
+use mathlib.Core.Bool.{Bool, true, false}
+use mathlib.Core.List.{List, [], _∷_}
+use lib.ListN.{length}
+use Rattle.laws.specs.Rows.{_⇒_⁏_, _or_, _<?_, _=?_}
+use Rattle.laws.specs.Table.{count}
+use Rattle.paper.specs.Limits.{sampleMost, ownPlaces}
+use Rattle.paper.specs.declared.Answer.{Answer}
+use Rattle.unit.specs.Layout.{readOf}
+use Rattle.desk.specs.declared.GivenUp.{GivenUp}
+use Rattle.desk.specs.Desk.{Own}
+use Rattle.desk.specs.Effects.{asks}
+use Rattle.table.specs.Table.{mine}
+use Rattle.relay.specs.Relay.{Tables, within, ownOf, stranger, lacking, receivedAt, givenUpAt, lookedUp}
+
+-- ---- a call with all that it is handed, the output and the style book lent for it included
+pub data Call : Type 0 where
+  receive : (desk time : ℕ) → (rest out : List ℕ) → Call
+  give-up : (desk time : ℕ) → Call
+  lookup : (desk index : ℕ) → (book : List ℕ) → Call
+
+abbrev pub caller : Call → ℕ
+caller (receive desk time rest out) = desk
+caller (give-up desk time) = desk
+caller (lookup desk index book) = desk
+
+-- ---- what it gets: the answer and the output after the call; the answer alone; the description shown
+pub data Got : Type 0 where
+  answered : Answer → (out : List ℕ) → Got
+  released : GivenUp → Got
+  shown : (description : List ℕ) → Got
+
+abbrev pub got : (n : ℕ) → Tables → Call → Got
+got n s (receive desk time rest out) = answered (receivedAt n s desk time rest out .answer) (receivedAt n s desk time rest out .out)
+got n s (give-up desk time) = released (givenUpAt n s desk time .answer)
+got n s (lookup desk index book) = shown (lookedUp n (s .marks) (s .stores) desk index book)
+
+-- the tables after it
+abbrev pub next : (n : ℕ) → Tables → Call → Tables
+next n s (receive desk time rest out) = receivedAt n s desk time rest out .tables
+next n s (give-up desk time) = givenUpAt n s desk time .tables
+next n s (lookup desk index book) = s
+
+-- ---- a run hands the tables on, and collects for each call the desk and what it got
+abbrev pub run : (n : ℕ) → Tables → List Call → List (ℕ × Got)
+run n s [] = []
+run n s (c ∷ cs) = (caller c, got n s c) ∷ run n (next n s c) cs
+
+-- what is collected for desk d, and the calls of desk d
+abbrev pub to : (d : ℕ) → List (ℕ × Got) → List Got
+to d [] = []
+to d (g ∷ gs) = g .0 =? d ⇒ g .1 ∷ to d gs ⁏ to d gs
+
+abbrev pub only : (d : ℕ) → List Call → List Call
+only d [] = []
+only d (c ∷ cs) = caller c =? d ⇒ c ∷ only d cs ⁏ only d cs
+
+-- ---- modest: no call of the desk reaches the test of the shares while two or more of its own samples are open
+-- with what the desk has, the rest reaches that test: 2 lets it through, then the desk's own order
+abbrev pub arrives : Own → (desk time : ℕ) → (rest : List ℕ) → Bool
+arrives o desk time rest =
+    length (o .out) <? sampleMost ⇒ false
+    ⁏ asks o desk time rest (readOf rest .unit)
+
+-- and so does the call, where 1 lets it through
+abbrev pub reaches : (n : ℕ) → Tables → Call → Bool
+reaches n s (receive desk time rest out) =
+    stranger n desk or lacking n s ⇒ false
+    ⁏ arrives (ownOf n s desk time out) desk time rest
+reaches n s (give-up desk time) = false
+reaches n s (lookup desk index book) = false
+
+abbrev pub Few : (opens : ℕ) → Type 0
+Few opens = opens < ownPlaces
+
+abbrev pub Modest : (n d : ℕ) → Tables → List Call → Type 0
+Modest n d s [] = Unit {0}
+Modest n d s (c ∷ cs) = (caller c ≡ d → reaches n s c ≡ true → Few (count (mine d) (within n s))) × Modest n d (next n s c) cs

@@ -1,0 +1,112 @@
+-- Worked runs, by computation. In lent memory exactly as long as two desks need: a desk is not disturbed by one that takes all it can get;
+-- and modesty is needed, by case 10 of document 01. In any lent memory: the same quiet desk among seven others, whatever they do.
+-- Assumes nothing.
+use Prim.Native.Nat.{ℕ, _<_}
+use native.Mathlib.Omega.{arith}
+use mathlib.Core.Path.{_≡_, refl, sym, ap₂, subst, _∙_}
+use mathlib.Core.Bool.{false, true≢false}
+use mathlib.Core.List.{List, [], _∷_, _++_, flatten}
+use lib.Count.{ones}
+use lib.ListN.{replicate}
+use lib.Seq.{sets}
+use Rattle.laws.specs.Rows.{_⇒_⁏_, _or_, _<?_, _=?_}
+use Rattle.paper.specs.Limits.{sampleMost}
+use Rattle.paper.specs.declared.Refusal.the-variants as R
+use Rattle.paper.specs.declared.Outcome.{Outcome}
+use Rattle.paper.specs.declared.Outcome.the-variants as O
+use Rattle.unit.specs.Layout.{readOf, broken, judged, fieldsOf, least, badPart}
+use Rattle.joining.specs.Joining as J
+use Rattle.sample.specs.Place.{bare, outside, has, agrees, stands, repeats, oversize, toldOf, telling, laid, kept, missing, piecesIn, piecesOf}
+use Rattle.finished.specs.Times.{among, markedRow, markedUsed}
+use Rattle.desk.specs.declared.GivenUp.the-variants.{Freed}
+use Rattle.desk.specs.Desk.{says, facts, laterPart, sampleOf, conflicts, six, usedUp, completed, joining, received, givenUp}
+use Rattle.desk.specs.Effects.{asksPart}
+use Rattle.relay.specs.Relay.{Tables, standsAt, improper, stranger, short, freshMarks, setUp, ordered, receivedAt, yielded, givenUpAt, lacking}
+use Rattle.good.specs.Good.{set-up-good}
+use Rattle.good.specs.View.{View, view}
+use Rattle.good.specs.Fresh.{freshView, set-up-view, Exact, freshTables, set-up-exact}
+use Rattle.peace.specs.Run.{Call, receive, give-up, Got, answered, released, run, to, only}
+use Rattle.peace.specs.Alone.{alone, Frugal, as-frugal}
+
+-- ---- cases 7 and 8 of document 01: the two parts of one sample, and the sample
+abbrev first : List ℕ
+first = 0x02 ∷ 0x00 ∷ 0x0B ∷ 0x21 ∷ 0x00 ∷ 0x00 ∷ 0x64 ∷ 0x80 ∷ 0x00 ∷ 0x0E ∷ 0x48 ∷ 0x69 ∷ []
+
+abbrev second : List ℕ
+second =
+    0x03 ∷ 0x00 ∷ 0x12 ∷ 0x22 ∷ 0x00 ∷ 0x00 ∷ 0x64 ∷ 0x00 ∷ 0x00 ∷ 0x00 ∷ 0x0C ∷ 0x62 ∷ 0x6C ∷ 0x6E ∷ 0x6B ∷ 0x00 ∷ 0x00 ∷ 0x00 ∷ 0x01 ∷ []
+
+abbrev sample : List ℕ
+sample = 0x48 ∷ 0x69 ∷ 0x00 ∷ 0x00 ∷ 0x00 ∷ 0x0C ∷ 0x62 ∷ 0x6C ∷ 0x6E ∷ 0x6B ∷ 0x00 ∷ 0x00 ∷ 0x00 ∷ 0x01 ∷ []
+
+abbrev blank : List ℕ
+blank = replicate sampleMost 0
+
+-- a desk opens its sample of a time, and what it is told
+abbrev opens : (desk time : ℕ) → Call
+opens desk time = receive desk time first blank
+
+abbrev told : (time : ℕ) → Outcome → Got
+told time x = answered (says 12 time x) blank
+
+-- ---- a quiet desk opens two, completes one and gives the other up
+abbrev quiet : (desk : ℕ) → List Call
+quiet desk = opens desk 1 ∷ opens desk 2 ∷ receive desk 1 second blank ∷ give-up desk 2 ∷ []
+
+abbrev quiet-gets : List Got
+quiet-gets =
+    told 1 (O.Kept 1) ∷ told 2 (O.Kept 1) ∷ answered (says 19 101 (O.Joined (facts 1 0 128 100 2 14))) (sets blank 0 sample) ∷ released Freed ∷ []
+
+-- a greedy one opens all that it can: six, and its seventh gets 8
+abbrev greedy : List Call
+greedy = opens 0 1 ∷ opens 0 2 ∷ opens 0 3 ∷ opens 0 4 ∷ opens 0 5 ∷ opens 0 6 ∷ opens 0 7 ∷ []
+
+abbrev greedy-gets : List Got
+greedy-gets =
+    told 1 (O.Kept 1) ∷ told 2 (O.Kept 1) ∷ told 3 (O.Kept 1) ∷ told 4 (O.Kept 1) ∷ told 5 (O.Kept 1) ∷ told 6 (O.Kept 1) ∷ told 7 (O.Refused R.Six) ∷ []
+
+-- both at one relay, where the greedy one gives one up and takes another
+abbrev both : List Call
+both = greedy ++ (opens 1 1 ∷ opens 1 2 ∷ give-up 0 1 ∷ opens 0 8 ∷ receive 1 1 second blank ∷ opens 0 9 ∷ give-up 1 2 ∷ [])
+
+-- a desk that is not modest opens a third
+abbrev three : List Call
+three = opens 1 1 ∷ opens 1 2 ∷ opens 1 3 ∷ []
+
+-- ---- what the rules compute to
+abbrev Peaceful : Tables → Type 0
+Peaceful s = (to 1 (run 2 s both) ≡ quiet-gets) × (to 1 (run 2 s (quiet 1)) ≡ quiet-gets)
+
+abbrev Crowded : Tables → Type 0
+Crowded s =
+    (to 0 (run 2 s (greedy ++ three)) ≡ greedy-gets)
+    × ((to 1 (run 2 s (greedy ++ three)) ≡ told 1 (O.Kept 1) ∷ told 2 (O.Kept 1) ∷ told 3 (O.Refused R.Common) ∷ [])
+    × (to 1 (run 2 s three) ≡ told 1 (O.Kept 1) ∷ told 2 (O.Kept 1) ∷ told 3 (O.Kept 1) ∷ []))
+
+-- alone, the quiet desk has none open at its first call and one at its second, and its others ask for no place
+computed : Peaceful (freshTables 2) × (Crowded (freshTables 2) × (Frugal freshView (quiet 7) × (alone freshView (quiet 7) ≡ quiet-gets)))
+unfolding _⇒_⁏_ _<?_ _=?_ readOf broken judged fieldsOf least badPart bare outside has agrees stands repeats oversize toldOf telling laid kept missing piecesIn piecesOf among laterPart sampleOf conflicts six usedUp completed joining received standsAt improper stranger short freshMarks ordered receivedAt ones markedRow markedUsed givenUp yielded givenUpAt J.laters J.going J.ordered J.sound flatten asksPart
+computed =
+    ((refl, refl), ((refl, (refl, refl)), ((λ e. omega arith, (λ e. omega arith, (λ e. absurd (true≢false (sym e)), (λ e. absurd (true≢false (sym e)), tt)))), refl)))
+
+-- ---- in lent memory exactly as long as two desks need
+two-is-proper : improper 2 ≡ false
+unfolding improper _⇒_⁏_ _<?_ _=?_
+two-is-proper = refl
+
+-- the quiet desk gets the same, with the greedy one and without it
+pub in-peace : (s : Tables) → Exact 2 s → Peaceful (setUp 2 s .tables)
+in-peace s x = subst Peaceful (sym (set-up-exact 2 s two-is-proper x)) (computed .0)
+
+-- case 10: the third of a desk gets 9 beside the greedy one, and is kept without it
+pub case-10 : (s : Tables) → Exact 2 s → Crowded (setUp 2 s .tables)
+case-10 s x = subst Crowded (sym (set-up-exact 2 s two-is-proper x)) (computed .1 .0)
+
+-- ---- in any lent memory, among seven others: whatever they do, desk 7 gets this
+pub among-seven : (s : Tables) → (improper 8 or lacking 8 s) ≡ false → (xs : List Call) → only 7 xs ≡ quiet 7
+    → to 7 (run 8 (setUp 8 s .tables) xs) ≡ quiet-gets
+among-seven s e xs q =
+    let h : 7 < 8 = omega arith in
+    let v : view 8 7 (setUp 8 s .tables) ≡ freshView = set-up-view 8 7 s e h in
+    let f : Frugal (view 8 7 (setUp 8 s .tables)) (only 7 xs) = subst (λ (w : View). Frugal w (only 7 xs)) (sym v) (subst (Frugal freshView) (sym q) (computed .1 .1 .0)) in
+    as-frugal 8 7 h xs (setUp 8 s .tables) (set-up-good 8 s e) f ∙ ap₂ alone v q ∙ computed .1 .1 .1
