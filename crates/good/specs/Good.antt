@@ -4,17 +4,18 @@ use Prim.Native.Nat.{ℕ, _*_, _≤_, _<_}
 use native.Mathlib.Omega.{arith}
 use mathlib.Core.Path.{_≡_, refl, sym, ap, subst, _∙_}
 use mathlib.Core.Bool.{Bool, true, false, not}
-use mathlib.Core.List.{List, [], _++_}
-use lib.ListN.{length, take, drop, replicate, length-append, length-set, length-replicate, take-append-drop}
+use mathlib.Core.List.{List, []}
+use lib.ListN.{length, take, drop, replicate, length-append, length-set, length-replicate}
 use lib.Seq.{sets, length-sets, length-take-le, take-at, sets-eq}
 use Rattle.laws.specs.Rows.{_⇒_⁏_, _or_, _<?_, no, lt, ge, ne, lt-of, ge-of, ne-of, or-none}
-use Rattle.laws.specs.Region.{splice, length-cell, length-cells, splice-part}
+use Rattle.laws.specs.Region.{length-cell, length-cells}
 use Rattle.paper.specs.Limits.{finishedMost, desksMost, placesEach, marksEach, storeSize, places}
 use Rattle.sample.specs.declared.Place.{Place}
 use Rattle.sample.specs.Place.{closed}
 use Rattle.desk.specs.Desk.{Own}
-use Rattle.relay.specs.Relay.{Tables, within, rowOf, marksOf, storeOf, openAt, ownOf, sharesOf, placed, standsAt, putBack, improper, stranger, short, lacksThree, lacking, Made, freshMarks, setUp, ordered, receivedAt, yielded, givenUpAt}
-use Rattle.good.specs.Places.{open-named, placed-open, Moved, moved}
+use Rattle.relay.specs.Relay.{Tables, within, ownOf, sharesOf, placed, standsAt, putBack, improper, stranger, short, lacksThree, lacking, Made, freshMarks, setUp, ordered, receivedAt, yielded, givenUpAt}
+use Rattle.relay.specs.Back.{put-same}
+use Rattle.good.specs.Places.{open-named, Moved, moved}
 use Rattle.good.specs.Fair.{Fair, room, fair-closed, fair-moved}
 use Rattle.good.specs.Leaves.{Leaves, ordered-leaves, yielded-leaves}
 
@@ -116,22 +117,6 @@ module _ (n : ℕ) (s : Tables) (desk time : ℕ) where
       fair = fair-moved n desk time (o .place) (within n s) _ (g .fair) h (fits .moved) (k .new);
     }
 
-  -- the desk's own things put back as they stood change nothing
-  pub put-same : (out : List ℕ) → putBack n s desk time (ownOf n s desk time out) ≡ s
-  put-same out = λ i. record { places = all i; rows = rows i; marks = marks i; stores = stores i }
-    where
-      all : placed desk time (openAt desk time (within n s)) (within n s) ++ drop (places n) (s .places) ≡ s .places
-      all = ap (λ (l : List Place). l ++ drop (places n) (s .places)) (placed-open desk time (within n s)) ∙ take-append-drop (places n) (s .places)
-
-      rows : splice (finishedMost * desk) finishedMost (rowOf desk (s .rows)) (s .rows) ≡ s .rows
-      rows = splice-part (finishedMost * desk) finishedMost (s .rows)
-
-      marks : splice (marksEach * desk) marksEach (marksOf desk (s .marks)) (s .marks) ≡ s .marks
-      marks = splice-part (marksEach * desk) marksEach (s .marks)
-
-      stores : splice (storeSize * desk) storeSize (storeOf desk (s .stores)) (s .stores) ≡ s .stores
-      stores = splice-part (storeSize * desk) storeSize (s .stores)
-
   pub receive-left : (one : Bool) (rest out : List ℕ) → Left out (ordered one (sharesOf n desk (within n s)) (ownOf n s desk time out) desk time rest .own)
   receive-left one rest out = ordered-leaves _ (ownOf n s desk time out) desk time (open-named desk time (within n s)) one rest
 
@@ -146,7 +131,7 @@ module _ (n : ℕ) (s : Tables) (desk time : ℕ) where
       where
         go : (one : Bool) → (stranger n desk or lacking n s) ≡ one
             → P (putBack n s desk time (ordered one (sharesOf n desk (within n s)) (ownOf n s desk time out) desk time rest .own))
-        go true e = subst P (sym (put-same out)) same
+        go true e = subst P (sym (put-same n s desk time out)) same
         go false e = put (below n desk (or-none _ _ e .0)) _ (receive-left false rest out)
 
     pub give-up-each : (desk < n → (o : Own) → Left [] o → P (putBack n s desk time o)) → P (givenUpAt n s desk time .tables)
@@ -155,7 +140,7 @@ module _ (n : ℕ) (s : Tables) (desk time : ℕ) where
       where
         go : (one : Bool) → (stranger n desk or lacksThree n (length (s .places)) (length (s .rows)) (length (s .marks))) ≡ one
             → P (putBack n s desk time (yielded one (ownOf n s desk time []) time .own))
-        go true e = subst P (sym (put-same [])) same
+        go true e = subst P (sym (put-same n s desk time [])) same
         go false e = put (below n desk (or-none _ _ e .0)) _ (give-up-left false)
 
 -- ---- every call keeps good tables good

@@ -23,7 +23,7 @@ use Rattle.desk.specs.declared.GivenUp.the-variants as G
 use Rattle.desk.specs.Desk.{Own, After, Given, finish, taken, received, givenUp}
 use Rattle.desk.specs.Effects.{Effect, stays, effects, progress}
 use Rattle.relay.specs.Relay.{Tables, within, ownOf, sharesOf, putBack, ordered, receivedAt, yielded, givenUpAt}
-use Rattle.good.specs.Good.{put-same}
+use Rattle.relay.specs.Back.{put-same}
 
 -- ---- the effect of a refusal
 ordered-effect : (one : Bool) (h : Shares) (s : Own) (desk time : ℕ) (rest : List ℕ) → Effect s time (ordered one h s desk time rest)

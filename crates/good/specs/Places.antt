@@ -8,8 +8,8 @@ use mathlib.Core.Bool.{Bool, true, false, not, true≢false}
 use mathlib.Core.Logic.{_≢_}
 use mathlib.Core.Option.{Option, Option·getD}
 use mathlib.Core.List.{List}
-use lib.ListN.{length, getD, set, List·getD-eq-default}
-use lib.Seq.{set-out, set-getD}
+use lib.ListN.{length, getD, List·getD-eq-default}
+use lib.Seq.{set-out}
 use Rattle.laws.specs.Rows.{each, eq, ne, eq-of, lt-of, ge-of, and-is, and-of}
 use Rattle.laws.specs.Table.{bit, seek, first, count, seek-hit, seek-first, seek-none, count-zero, count-set, first-set-here, first-set-other}
 use Rattle.sample.specs.declared.Place.{Place}
@@ -79,15 +79,6 @@ module _ (d t : ℕ) (l : List Place) where
 
   pub open-none : openAt d t l .used ≡ false → count (isAt d t) l ≡ 0
   open-none f = either (seek (isAt d t) l) (length l) (λ h. unused (openAt d t l) f (present h .0)) (λ h. seek-none (isAt d t) l h)
-
-  -- put back where it stood, it changes nothing
-  pub placed-open : placed d t (openAt d t l) l ≡ l
-  unfolding standsAt
-  placed-open =
-      each (λ (i : ℕ). set l i (openAt d t l) ≡ l) _ _ _ (λ h. set-getD l (seek (isAt d t) l) closed)
-      (λ h. each (λ (i : ℕ). set l i (openAt d t l) ≡ l) _ _ _
-      (λ u. unused (openAt d t l) (closed-free (openAt d t l) (absent (ge-of _ _ h))) u)
-      (λ u. set-out l (length l) (openAt d t l) (omega arith)))
 
 -- ---- p has become the desk's sample of the time: what the desk, and every other, sees of l and of k
 pub record Moved (d t : ℕ) (p : Place) (l k : List Place) : Type 0 where

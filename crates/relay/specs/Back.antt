@@ -29,7 +29,7 @@ use Rattle.relay.specs.Steps.{proper, three-long, all-long}
 use Rattle.relay.specs.Plan.{reachOf, commonSeen, sharesSeen, Few, aimOf, planned, yielding}
 
 -- ---- the desk's sample put back where it stood changes nothing
-pub placed-open : (d t : ℕ) (l : List Place) → placed d t (openAt d t l) l ≡ l
+placed-open : (d t : ℕ) (l : List Place) → placed d t (openAt d t l) l ≡ l
 unfolding standsAt bare
 placed-open d t l =
     each (λ (i : ℕ). set l i (openAt d t l) ≡ l) _ _ _ (λ h. set-getD l (seek (isAt d t) l) closed)

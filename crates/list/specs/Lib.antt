@@ -1,0 +1,4 @@
+pub mod Fits
+pub mod Listed
+pub mod Modest
+pub mod Runs

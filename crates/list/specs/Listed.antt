@@ -1,0 +1,43 @@
+-- The listing of one payload: document 01, 'Worked by hand'. Assumes nothing.
+use Prim.Native.Nat.{ℕ, zero, suc, _+_}
+use mathlib.Core.List.{List, [], _∷_, _++_}
+use lib.ListN.{length, drop, replicate}
+use Rattle.laws.specs.Rows.{_⇒_⁏_, _<?_, _=?_}
+use Rattle.paper.specs.Limits.{sampleMost, placesMost, finishedMost, marksEach, storeSize}
+use Rattle.sample.specs.Place.{closed}
+use Rattle.relay.specs.Relay.{Tables, Done, tables, setUp, receivedAt}
+use Rattle.lines.specs.Line.{lineOf}
+
+-- the longest payload that is listed
+abbrev pub payloadMost : ℕ
+payloadMost = 4096
+
+-- `end` and `too long`, each with its new line
+abbrev pub endLine : List ℕ
+endLine = 101 ∷ 110 ∷ 100 ∷ 10 ∷ []
+
+abbrev pub tooLong : List ℕ
+tooLong = 116 ∷ 111 ∷ 111 ∷ 32 ∷ 108 ∷ 111 ∷ 110 ∷ 103 ∷ 10 ∷ []
+
+-- what set-up makes for one desk of memory that is blank
+unfoldable pub blank : Tables
+blank = tables (replicate placesMost closed) (replicate finishedMost 0) (replicate marksEach 0) (replicate storeSize 0)
+
+unfoldable pub fresh : Tables
+fresh = setUp 1 blank .tables
+
+-- one call of desk 0, lent a blank output
+abbrev pub called : Tables → (time : ℕ) → (rest : List ℕ) → Done
+called s time rest = receivedAt 1 s 0 time rest (replicate sampleMost 0)
+
+-- a line a unit, and `end`: rest begins at `at` in the payload, and is read at `time`. `turns` bounds the number of units
+unfoldable pub linesFrom : (turns : ℕ) → Tables → (time at : ℕ) → (rest : List ℕ) → List ℕ
+linesFrom zero s time at rest = endLine
+linesFrom (suc turns) s time at rest =
+    length rest =? 0 ⇒ endLine
+    ⁏ (let d = called s time rest in
+    lineOf at time (d .answer) ++ linesFrom turns (d .tables) (d .answer .next) (at + d .answer .used) (drop (d .answer .used) rest))
+
+-- every unit uses a byte at least, so there are at most as many as bytes
+unfoldable pub listed : (input : List ℕ) → List ℕ
+listed input = payloadMost <? length input ⇒ tooLong ⁏ linesFrom (length input) fresh 0 0 input

@@ -1,0 +1,90 @@
+// The listing of one payload: a line a unit.
+use paper::limits::FINISHED_MOST;
+use paper::limits::MARKS_EACH;
+use paper::limits::PLACES_MOST;
+use paper::limits::SAMPLE_MOST;
+use paper::limits::STORE_SIZE;
+use relay::Relay;
+use relay::Started;
+use sample::Place;
+ghost use mathlib.Core.Path.{_≡_};
+ghost use lib.ListN.{length};
+ghost use Rattle.relay.specs.Relay.{tables};
+ghost use Rattle.good.specs.Good.{Good};
+ghost use Rattle.lines.specs.Written.{laid, written};
+ghost use Rattle.list.specs.Listed.{linesFrom, listed};
+
+const PAYLOAD_MOST: usize = 4096;
+
+// The lines of the units, one after the other, and `end`.
+fn list_units(
+    relay: Relay,
+    fresh: [Place; PLACES_MOST],
+    rows: &mut [u32],
+    marks: &mut [u32],
+    stores: &mut [u8],
+    input: &[u8],
+    text: &mut [u8],
+) -> usize
+    requires { ⌜ (relay .desks ≡ 1) × Good 1 (tables fresh (now rows) (now marks) (now stores)) ⌝ }
+    ensures { λ r. ⌜ laid (now (text .exit)) r ≡ written (now (text .entry)) 0 (linesFrom (length (now (input .entry))) (tables fresh (now (rows .entry)) (now (marks .entry)) (now (stores .entry))) 0 0 (now (input .entry))) ⌝ }
+{
+    let mut places = fresh;
+    let mut time: u32 = 0;
+    let mut at = 0;
+    let mut next = 0;
+    while at < input.len() {
+        let mut out = [0u8; SAMPLE_MOST];
+        let called = held::receive(
+            relay,
+            places,
+            rows,
+            marks,
+            stores,
+            0,
+            time,
+            &input[at..],
+            &mut out,
+        );
+        let answer = called.answer;
+        next = lines::put_line(text, next, at, time, answer);
+        places = called.places;
+        time = answer.next;
+        at += answer.used;
+    }
+    lines::put_text(text, next, b"end\n")
+}
+
+// A line for each unit of the payload, and `end`; for a longer input `too long`.
+pub fn list(input: &[u8], text: &mut [u8]) -> usize
+    ensures { λ r. ⌜ laid (now (text .exit)) r ≡ written (now (text .entry)) 0 (listed (now (input .entry))) ⌝ }
+{
+    if PAYLOAD_MOST < input.len() {
+        return lines::put_text(text, 0, b"too long\n");
+    }
+    let mut rows = [0u32; FINISHED_MOST];
+    let mut marks = [0u32; MARKS_EACH];
+    let mut stores = [0u8; STORE_SIZE];
+    let begun = held::set_up(
+        1,
+        [sample::closed(); PLACES_MOST],
+        &mut rows,
+        &mut marks,
+        &mut stores,
+    );
+    let answer = begun.answer;
+    let Started::Ready(relay) = answer else {
+        // Never reached: what is lent is enough for one desk.
+        return 0;
+    };
+    let places = begun.places;
+    list_units(
+        relay,
+        places,
+        &mut rows,
+        &mut marks,
+        &mut stores,
+        input,
+        text,
+    )
+}
