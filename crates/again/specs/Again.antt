@@ -94,7 +94,7 @@ module _ (c : Caption) (M room : ℕ) (v : Writable c M room) (u : uncut c M ≡
         rw (payload-read c M room v u k some within (more k), cut-unit c M l k, ← (cut-count c M l))
         (unit-joins c M k (getD (parts c M) (k - 1) (piece 2 [])))
 
-    part-read : (k : ℕ) → 0 < k → k ≤ count c M → pieceRead (payload c M k ++ more k) ≡ getD (parts c M) (k - 1) (piece 2 [])
+    pub part-read : (k : ℕ) → 0 < k → k ≤ count c M → pieceRead (payload c M k ++ more k) ≡ getD (parts c M) (k - 1) (piece 2 [])
     part-read k some within =
         let s = payload c M k ++ more k in
         let p = getD (parts c M) (k - 1) (piece 2 []) in

@@ -1,0 +1,10 @@
+pub mod Ours
+pub mod Due
+pub mod Keeping
+pub mod Adding
+pub mod Marks
+pub mod Others
+pub mod Steps
+pub mod Calls
+pub mod Once
+pub mod Worked
