@@ -1,0 +1,89 @@
+-- Answers as numbers, for callers in other languages: a lent row gets the values one after the other. Assumes nothing.
+use Prim.Native.Nat.{ℕ}
+use mathlib.Core.List.{List, [], _∷_}
+use lib.Seq.{sets}
+use Rattle.paper.specs.Words.{numberOf, kindOf, valuesOf}
+use Rattle.paper.specs.declared.Answer.{Answer}
+use Rattle.style.specs.declared.Checked.{Checked}
+use Rattle.style.specs.declared.Checked.the-variants as C
+use Rattle.boxes.specs.declared.Found.{Found}
+use Rattle.boxes.specs.declared.Found.the-variants as F
+use Rattle.writer.specs.declared.Written.{Written}
+use Rattle.writer.specs.declared.Written.the-variants as W
+use Rattle.writer.specs.Write as Write
+use Rattle.desk.specs.declared.GivenUp.{GivenUp}
+use Rattle.desk.specs.declared.GivenUp.the-variants as G
+use Rattle.relay.specs.declared.Relay.{Relay}
+use Rattle.relay.specs.declared.Started.{Started}
+use Rattle.relay.specs.declared.Started.the-variants as S
+use Rattle.relay.specs.Relay.{Tables, Made, Done, Released}
+
+-- ---- the numbers of each answer
+-- used, next, the outcome's kind, and its values
+abbrev pub answerRow : Answer → List ℕ
+answerRow a = a .used ∷ a .next ∷ kindOf (a .outcome) ∷ valuesOf (a .outcome)
+
+-- 0 and how many records; or the refusal and the first bad record's number
+abbrev pub checkedRow : Checked → List ℕ
+checkedRow (C.Good n) = 0 ∷ n ∷ []
+checkedRow (C.Refused r i) = numberOf r ∷ i ∷ []
+
+-- 0, the payload's length and how many there are; or the refusal
+abbrev pub writtenRow : Written → List ℕ
+writtenRow (W.Payload len count) = 0 ∷ len ∷ count ∷ []
+writtenRow (W.Refused r) = numberOf r ∷ []
+
+-- the next place; then 0 at the end, 1 and the type for a box, or the refusal
+abbrev pub steppedRow : (next : ℕ) → Found → List ℕ
+steppedRow next F.End = next ∷ 0 ∷ []
+steppedRow next (F.Box t) = next ∷ 1 ∷ t ∷ []
+steppedRow next (F.Refused r) = next ∷ numberOf r ∷ []
+
+-- what the later calls take: how many desks there are
+abbrev pub relayWith : (desks : ℕ) → Relay
+relayWith desks = record { desks = desks }
+
+-- 0, or the refusal
+abbrev pub startedNumber : Started → ℕ
+startedNumber (S.Ready r) = 0
+startedNumber (S.Refused r) = numberOf r
+
+abbrev pub givenUpNumber : GivenUp → ℕ
+givenUpNumber G.Freed = 0
+givenUpNumber (G.Refused r) = numberOf r
+
+-- ---- what a call leaves: the tables with the number, or with the output and the row
+pub record Numbered : Type 0 where
+  pub tables : Tables
+  pub number : ℕ
+
+abbrev pub numbered : Tables → ℕ → Numbered
+numbered s n = record { tables = s; number = n }
+
+abbrev pub startedAs : Made → Numbered
+startedAs m = numbered (m .tables) (startedNumber (m .answer))
+
+abbrev pub releasedAs : Released → Numbered
+releasedAs r = numbered (r .tables) (givenUpNumber (r .answer))
+
+pub record Rowed : Type 0 where
+  pub used : ℕ
+  pub tables : Tables
+  pub out : List ℕ
+  pub row : List ℕ
+
+abbrev pub rowed : (used : ℕ) → Tables → (out row : List ℕ) → Rowed
+rowed used s out row = record { used = used; tables = s; out = out; row = row }
+
+abbrev pub doneAs : Done → (row : List ℕ) → Rowed
+doneAs d row = rowed (d .answer .used) (d .tables) (d .out) (sets row 0 (answerRow (d .answer)))
+
+pub record Wrote : Type 0 where
+  pub out : List ℕ
+  pub row : List ℕ
+
+abbrev pub wrote : (out row : List ℕ) → Wrote
+wrote out row = record { out = out; row = row }
+
+abbrev pub writtenAs : Write.After → (row : List ℕ) → Wrote
+writtenAs a row = wrote (a .out) (sets row 0 (writtenRow (a .answer)))

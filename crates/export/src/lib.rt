@@ -1,0 +1,268 @@
+// The relay for C and Rust: numbers and slices only. An answer goes as numbers into a lent row.
+use boxes::Found;
+use desk::GivenUp;
+use paper::Answer;
+use paper::Facts;
+use paper::Outcome;
+use relay::Relay;
+use relay::Started;
+use sample::Place;
+use style::Checked;
+use writer::Written;
+ghost use mathlib.Core.Path.{_≡_};
+ghost use mathlib.Core.List.{List, [], _∷_};
+ghost use Prim.Native.Nat.{ℕ};
+ghost use lib.ListN.{length, drop, set};
+ghost use lib.Seq.{sets};
+ghost use Rattle.paper.specs.Words.{factsOf, valuesOf};
+ghost use Rattle.relay.specs.Relay.{tables, setUp, receivedAt, givenUpAt, lookedUp};
+ghost use Rattle.style.specs.Book.{checkOf};
+ghost use Rattle.boxes.specs.Step.{stepOf};
+ghost use Rattle.text.specs.Unicode.{character};
+ghost use Rattle.writer.specs.Write.{caption, written, described};
+ghost use Rattle.export.specs.Export.{answerRow, checkedRow, writtenRow, steppedRow, relayWith, startedNumber, givenUpNumber, numbered, startedAs, releasedAs, rowed, doneAs, wrote, writtenAs};
+
+// Stores a number in a row; past the end, nothing.
+fn put_at(row: &mut [u64], i: usize, v: usize)
+    ensures { λ _. ⌜ now (row .exit) ≡ set (now (row .entry)) i v ⌝ }
+{
+    if i < row.len() {
+        row[i] = v as u64;
+    }
+}
+
+fn put_facts(row: &mut [u64], f: Facts)
+    ensures { λ _. ⌜ now (row .exit) ≡ sets (now (row .entry)) 3 (factsOf f) ⌝ }
+{
+    put_at(row, 3, f.time as usize);
+    put_at(row, 4, f.u);
+    put_at(row, 5, f.sidx);
+    put_at(row, 6, f.sdur);
+    put_at(row, 7, f.string);
+    put_at(row, 8, f.sample);
+}
+
+fn put_values(row: &mut [u64], outcome: Outcome)
+    ensures { λ _. ⌜ now (row .exit) ≡ sets (now (row .entry)) 3 (valuesOf outcome) ⌝ }
+{
+    match outcome {
+        Outcome::Whole(f) => put_facts(row, f),
+        Outcome::Joined(f) => put_facts(row, f),
+        Outcome::Kept(n) => put_at(row, 3, n),
+        Outcome::Skipped(t) => put_at(row, 3, t),
+        Outcome::Refused(r) => put_at(row, 3, paper::number(r)),
+        Outcome::End => {}
+        Outcome::Repeat => {}
+        Outcome::Described => {}
+    }
+}
+
+fn put_answer(row: &mut [u64], a: Answer) -> usize
+    ensures { λ r. ⌜ (r ≡ a .used) × (now (row .exit) ≡ sets (now (row .entry)) 0 (answerRow a)) ⌝ }
+{
+    let outcome = a.outcome;
+    put_at(row, 0, a.used);
+    put_at(row, 1, a.next as usize);
+    put_at(row, 2, paper::kind(outcome));
+    put_values(row, outcome);
+    a.used
+}
+
+fn put_two(row: &mut [u64], a: usize, b: usize)
+    ensures { λ _. ⌜ now (row .exit) ≡ sets (now (row .entry)) 0 (a ∷ b ∷ []) ⌝ }
+{
+    put_at(row, 0, a);
+    put_at(row, 1, b);
+}
+
+fn put_three(row: &mut [u64], a: usize, b: usize, c: usize)
+    ensures { λ _. ⌜ now (row .exit) ≡ sets (now (row .entry)) 0 (a ∷ b ∷ c ∷ []) ⌝ }
+{
+    put_two(row, a, b);
+    put_at(row, 2, c);
+}
+
+fn put_checked(row: &mut [u64], c: Checked)
+    ensures { λ _. ⌜ now (row .exit) ≡ sets (now (row .entry)) 0 (checkedRow c) ⌝ }
+{
+    match c {
+        Checked::Good(n) => put_two(row, 0, n),
+        Checked::Refused(r, i) => put_two(row, paper::number(r), i),
+    }
+}
+
+fn put_written(row: &mut [u64], w: Written)
+    ensures { λ _. ⌜ now (row .exit) ≡ sets (now (row .entry)) 0 (writtenRow w) ⌝ }
+{
+    match w {
+        Written::Payload { len, count } => put_three(row, 0, len, count),
+        Written::Refused(r) => put_at(row, 0, paper::number(r)),
+    }
+}
+
+fn put_stepped(row: &mut [u64], next: usize, f: Found)
+    ensures { λ _. ⌜ now (row .exit) ≡ sets (now (row .entry)) 0 (steppedRow next f) ⌝ }
+{
+    match f {
+        Found::End => put_two(row, next, 0),
+        Found::Box(t) => put_three(row, next, 1, t),
+        Found::Refused(r) => put_two(row, next, paper::number(r)),
+    }
+}
+
+fn relay_of(desks: usize) -> Relay
+    ensures { λ r. ⌜ r ≡ relayWith desks ⌝ }
+{
+    Relay { desks }
+}
+
+fn started_number(s: Started) -> usize
+    ensures { λ r. ⌜ r ≡ startedNumber s ⌝ }
+{
+    match s {
+        Started::Ready(_) => 0,
+        Started::Refused(r) => paper::number(r),
+    }
+}
+
+fn given_up_number(g: GivenUp) -> usize
+    ensures { λ r. ⌜ r ≡ givenUpNumber g ⌝ }
+{
+    match g {
+        GivenUp::Freed => 0,
+        GivenUp::Refused(r) => paper::number(r),
+    }
+}
+
+// Makes what n desks need fresh. Answers 0, or 1 where it is refused.
+#[no_mangle]
+pub extern "C" fn spindlefig_set_up(
+    n: usize,
+    places: &mut [Place],
+    rows: &mut [u32],
+    marks: &mut [u32],
+    stores: &mut [u8],
+) -> usize
+    ensures { λ r. ⌜ numbered (tables (now (places .exit)) (now (rows .exit)) (now (marks .exit)) (now (stores .exit))) r ≡ startedAs (setUp n (tables (now (places .entry)) (now (rows .entry)) (now (marks .entry)) (now (stores .entry)))) ⌝ }
+{
+    let s = relay::set_up(n, places, rows, marks, stores);
+    started_number(s)
+}
+
+// Takes the unit at the front of the rest. Answers the bytes used; the row gets all of the answer.
+#[no_mangle]
+pub extern "C" fn spindlefig_receive(
+    desks: usize,
+    places: &mut [Place],
+    rows: &mut [u32],
+    marks: &mut [u32],
+    stores: &mut [u8],
+    desk: usize,
+    time: u32,
+    rest: &[u8],
+    out: &mut [u8],
+    row: &mut [u64],
+) -> usize
+    ensures { λ r. ⌜ rowed r (tables (now (places .exit)) (now (rows .exit)) (now (marks .exit)) (now (stores .exit))) (now (out .exit)) (now (row .exit)) ≡ doneAs (receivedAt desks (tables (now (places .entry)) (now (rows .entry)) (now (marks .entry)) (now (stores .entry))) desk time (now (rest .entry)) (now (out .entry))) (now (row .entry)) ⌝ }
+{
+    let r = relay_of(desks);
+    let a = relay::receive(r, places, rows, marks, stores, desk, time, rest, out);
+    put_answer(row, a)
+}
+
+// Gives a desk's open sample up. Answers 0, or the refusal.
+#[no_mangle]
+pub extern "C" fn spindlefig_give_up(
+    desks: usize,
+    places: &mut [Place],
+    rows: &mut [u32],
+    marks: &mut [u32],
+    desk: usize,
+    time: u32,
+) -> usize
+    ensures { λ r. ⌜ ((stores : List ℕ) → numbered (tables (now (places .exit)) (now (rows .exit)) (now (marks .exit)) stores) r ≡ releasedAs (givenUpAt desks (tables (now (places .entry)) (now (rows .entry)) (now (marks .entry)) stores) desk time)) ⌝ }
+{
+    let r = relay_of(desks);
+    let g = relay::give_up(r, places, rows, marks, desk, time);
+    given_up_number(g)
+}
+
+// Writes the description that an index shows to the front of the output, and answers its length; 0 where there is none.
+#[no_mangle]
+pub extern "C" fn spindlefig_lookup<'a>(
+    desks: usize,
+    marks: &[u32],
+    stores: &'a [u8],
+    desk: usize,
+    index: usize,
+    book: &'a [u8],
+    out: &mut [u8],
+) -> usize
+    ensures { λ r. ⌜ (r ≡ length (lookedUp desks (now (marks .entry)) (now (stores .entry)) desk index (now (book .entry)))) × (now (out .exit) ≡ sets (now (out .entry)) 0 (lookedUp desks (now (marks .entry)) (now (stores .entry)) desk index (now (book .entry)))) ⌝ }
+{
+    let d = relay::lookup(Relay { desks }, marks, stores, desk, index, book);
+    octets::put(out, 0, d);
+    d.len()
+}
+
+// Checks a style book.
+#[no_mangle]
+pub extern "C" fn spindlefig_check(book: &[u8], row: &mut [u64])
+    ensures { λ _. ⌜ now (row .exit) ≡ sets (now (row .entry)) 0 (checkedRow (checkOf (now (book .entry)))) ⌝ }
+{
+    put_checked(row, style::check(book));
+}
+
+// Writes payload k of a sample.
+#[no_mangle]
+pub extern "C" fn spindlefig_write(
+    u: usize,
+    sidx: usize,
+    sdur: usize,
+    string: &[u8],
+    modifiers: &[u8],
+    m: usize,
+    k: usize,
+    out: &mut [u8],
+    row: &mut [u64],
+)
+    ensures { λ _. ⌜ wrote (now (out .exit)) (now (row .exit)) ≡ writtenAs (written (caption u sidx sdur (now (string .entry)) (now (modifiers .entry))) m k (now (out .entry))) (now (row .entry)) ⌝ }
+{
+    put_written(
+        row,
+        writer::write_sample(u, sidx, sdur, string, modifiers, m, k, out),
+    );
+}
+
+// Writes the payload of a description.
+#[no_mangle]
+pub extern "C" fn spindlefig_describe(
+    sidx: usize,
+    d: &[u8],
+    m: usize,
+    k: usize,
+    out: &mut [u8],
+    row: &mut [u64],
+)
+    ensures { λ _. ⌜ wrote (now (out .exit)) (now (row .exit)) ≡ writtenAs (described sidx (now (d .entry)) m k (now (out .entry))) (now (row .entry)) ⌝ }
+{
+    put_written(row, writer::write_description(sidx, d, m, k, out));
+}
+
+// What stands at a place of the modifiers. A box's contents are the bytes from its place and 8 on, up to the next place.
+#[no_mangle]
+pub extern "C" fn spindlefig_box(modifiers: &[u8], at: usize, row: &mut [u64])
+    ensures { λ _. ⌜ now (row .exit) ≡ sets (now (row .entry)) 0 (steppedRow (stepOf (now (modifiers .entry)) at .next) (stepOf (now (modifiers .entry)) at .found)) ⌝ }
+{
+    let s = boxes::step(modifiers, at);
+    let found = s.found;
+    put_stepped(row, s.next, found);
+}
+
+// The length of the character at a place, and 0 where none is well-formed.
+#[no_mangle]
+pub extern "C" fn spindlefig_character(u: usize, s: &[u8], at: usize) -> usize
+    ensures { λ r. ⌜ r ≡ character u (drop at (now (s .entry))) ⌝ }
+{
+    text::character(u, s, at)
+}
