@@ -28,7 +28,7 @@ use Rattle.writer.specs.Cut.{cuts, cutsWithin, modified, pieces}
 use Rattle.writer.specs.Write.{long, count, partUnit, payloadData, payloadUnit, unsized, illFormed, unwritable, uncut, written}
 use Rattle.writer.specs.Cases.{letters}
 use Rattle.relay.specs.Relay.{Tables, standsAt, improper, stranger, short, freshMarks, setUp, ordered, receivedAt}
-use Rattle.good.specs.Fresh.{Exact, freshTables, set-up-exact}
+use Rattle.good.specs.Fresh.{Exact, exactTables, set-up-exact}
 use Rattle.peace.specs.Run.{Call, receive, Got, answered, run}
 
 -- ---- what a case says
@@ -129,7 +129,7 @@ cases =
 
 -- ---- what the rules compute to in the memory that set-up makes
 abbrev gets : (desks : ℕ) → List Call → List Got
-gets desks calls = map (λ (g : ℕ × Got). g .1) (run desks (freshTables desks) calls)
+gets desks calls = map (λ (g : ℕ × Got). g .1) (run desks (exactTables desks) calls)
 
 abbrev Computes : Case → Type 0
 Computes (plays desks calls x) = gets desks calls ≡ x

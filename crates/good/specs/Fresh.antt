@@ -76,8 +76,8 @@ set-up-view n d s e h =
     (cell-fresh storeSize n d h 0 (s .stores) (ge-of _ _ (c .1))))
 
 -- ---- in lent memory exactly as long as n desks need, set-up leaves these tables
-abbrev pub freshTables : (n : ℕ) → Tables
-freshTables n = tables (replicate (places n) closed) (replicate (finishedMost * n) 0) (freshMarks n) (replicate (storeSize * n) 0)
+abbrev pub exactTables : (n : ℕ) → Tables
+exactTables n = tables (replicate (places n) closed) (replicate (finishedMost * n) 0) (freshMarks n) (replicate (storeSize * n) 0)
 
 pub record Exact (n : ℕ) (s : Tables) : Type 0 where
   pub places : length (s .places) ≡ placesEach * n
@@ -89,13 +89,13 @@ all-stored : {A : Type 0} (vs l : List A) → length l ≡ length vs → sets l 
 all-stored {A = A} vs l e =
     sets-eq vs l 0 (omega arith) ∙ ap (λ (r : List A). vs ++ r) (drop-of-length-le l {i = 0 + length vs} (omega arith)) ∙ append-nil vs
 
-pub set-up-exact : (n : ℕ) (s : Tables) → improper n ≡ false → Exact n s → setUp n s .tables ≡ freshTables n
+pub set-up-exact : (n : ℕ) (s : Tables) → improper n ≡ false → Exact n s → setUp n s .tables ≡ exactTables n
 unfolding setUp short
 set-up-exact n s p x =
     let e : (improper n or lacking n s) ≡ false =
     sym (no _ true p (no _ true (sym (no _ true (ge _ _ (omega (arith, x .places))) (no _ true (ge _ _ (omega (arith, x .rows))) (sym (ge _ _ (omega (arith, x .marks)))))))
     (sym (ge _ _ (omega (arith, x .stores)))))) in
-    subst (λ (m : Made). m .tables ≡ freshTables n) (no _ _ e refl)
+    subst (λ (m : Made). m .tables ≡ exactTables n) (no _ _ e refl)
     (λ i.
     tables (all-stored (replicate (places n) closed) (s .places) (x .places ∙ sym (length-replicate (places n) closed)) i)
     (all-stored (replicate (finishedMost * n) 0) (s .rows) (x .rows ∙ sym (length-replicate {A = ℕ} (finishedMost * n) 0)) i)

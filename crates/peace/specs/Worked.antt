@@ -24,7 +24,7 @@ use Rattle.desk.specs.Effects.{asksPart}
 use Rattle.relay.specs.Relay.{Tables, standsAt, improper, stranger, short, freshMarks, setUp, ordered, receivedAt, yielded, givenUpAt, lacking}
 use Rattle.good.specs.Good.{set-up-good}
 use Rattle.good.specs.View.{View, view}
-use Rattle.good.specs.Fresh.{freshView, set-up-view, Exact, freshTables, set-up-exact}
+use Rattle.good.specs.Fresh.{freshView, set-up-view, Exact, exactTables, set-up-exact}
 use Rattle.peace.specs.Run.{Call, receive, give-up, Got, answered, released, run, to, only}
 use Rattle.peace.specs.Alone.{alone, Frugal, as-frugal}
 
@@ -84,7 +84,7 @@ Crowded s =
     × (to 1 (run 2 s three) ≡ told 1 (O.Kept 1) ∷ told 2 (O.Kept 1) ∷ told 3 (O.Kept 1) ∷ []))
 
 -- alone, the quiet desk has none open at its first call and one at its second, and its others ask for no place
-computed : Peaceful (freshTables 2) × (Crowded (freshTables 2) × (Frugal freshView (quiet 7) × (alone freshView (quiet 7) ≡ quiet-gets)))
+computed : Peaceful (exactTables 2) × (Crowded (exactTables 2) × (Frugal freshView (quiet 7) × (alone freshView (quiet 7) ≡ quiet-gets)))
 unfolding _⇒_⁏_ _<?_ _=?_ readOf broken judged fieldsOf least badPart bare outside has agrees stands repeats oversize toldOf telling laid kept missing piecesIn piecesOf among laterPart sampleOf conflicts six usedUp completed joining received standsAt improper stranger short freshMarks ordered receivedAt ones markedRow markedUsed givenUp yielded givenUpAt J.laters J.going J.ordered J.sound flatten asksPart
 computed =
     ((refl, refl), ((refl, (refl, refl)), ((λ e. omega arith, (λ e. omega arith, (λ e. absurd (true≢false (sym e)), (λ e. absurd (true≢false (sym e)), tt)))), refl)))
