@@ -1,7 +1,8 @@
 -- Answers as numbers, for callers in other languages: a lent row gets the values one after the other. Assumes nothing.
-use Prim.Native.Nat.{ℕ}
+use Prim.Native.Nat.{ℕ, _*_}
 use mathlib.Core.List.{List, [], _∷_}
 use lib.Seq.{sets}
+use Rattle.laws.specs.Rows.{_⇒_⁏_}
 use Rattle.paper.specs.Words.{numberOf, kindOf, valuesOf}
 use Rattle.paper.specs.declared.Answer.{Answer}
 use Rattle.style.specs.declared.Checked.{Checked}
@@ -16,7 +17,7 @@ use Rattle.desk.specs.declared.GivenUp.the-variants as G
 use Rattle.relay.specs.declared.Relay.{Relay}
 use Rattle.relay.specs.declared.Started.{Started}
 use Rattle.relay.specs.declared.Started.the-variants as S
-use Rattle.relay.specs.Relay.{Tables, Made, Done, Released}
+use Rattle.relay.specs.Relay.{Tables, Made, Done, Released, improper}
 
 -- ---- the numbers of each answer
 -- used, next, the outcome's kind, and its values
@@ -51,6 +52,23 @@ startedNumber (S.Refused r) = numberOf r
 abbrev pub givenUpNumber : GivenUp → ℕ
 givenUpNumber G.Freed = 0
 givenUpNumber (G.Refused r) = numberOf r
+
+-- ---- what a caller lends
+-- the bytes of a place in memory
+abbrev pub placeSize : ℕ
+placeSize = 1472
+
+-- the numbers that hold the row of any answer
+abbrev pub rowMost : ℕ
+rowMost = 9
+
+-- the desks that are served; none where there is no such relay
+unfoldable pub served : (n : ℕ) → ℕ
+served n = improper n ⇒ 0 ⁏ n
+
+-- what n desks need of a table, so many each
+abbrev pub needed : (each n : ℕ) → ℕ
+needed each n = each * served n
 
 -- ---- what a call leaves: the tables with the number, or with the output and the row
 pub record Numbered : Type 0 where

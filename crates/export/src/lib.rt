@@ -4,6 +4,12 @@ use desk::GivenUp;
 use paper::Answer;
 use paper::Facts;
 use paper::Outcome;
+use paper::limits::DESKS_MOST;
+use paper::limits::FINISHED_MOST;
+use paper::limits::MARKS_EACH;
+use paper::limits::PLACES_EACH;
+use paper::limits::SAMPLE_MOST;
+use paper::limits::STORE_SIZE;
 use relay::Relay;
 use relay::Started;
 use sample::Place;
@@ -11,16 +17,17 @@ use style::Checked;
 use writer::Written;
 ghost use mathlib.Core.Path.{_≡_};
 ghost use mathlib.Core.List.{List, [], _∷_};
-ghost use Prim.Native.Nat.{ℕ};
+ghost use Prim.Native.Nat.{ℕ, _≤_};
 ghost use lib.ListN.{length, drop, set};
 ghost use lib.Seq.{sets};
+ghost use Rattle.paper.specs.Limits.{sampleMost, finishedMost, desksMost, placesEach, marksEach, storeSize};
 ghost use Rattle.paper.specs.Words.{factsOf, valuesOf};
 ghost use Rattle.relay.specs.Relay.{tables, setUp, receivedAt, givenUpAt, lookedUp};
 ghost use Rattle.style.specs.Book.{checkOf};
 ghost use Rattle.boxes.specs.Step.{stepOf};
 ghost use Rattle.text.specs.Unicode.{character};
 ghost use Rattle.writer.specs.Write.{caption, written, described};
-ghost use Rattle.export.specs.Export.{answerRow, checkedRow, writtenRow, steppedRow, relayWith, startedNumber, givenUpNumber, numbered, startedAs, releasedAs, rowed, doneAs, wrote, writtenAs};
+ghost use Rattle.export.specs.Export.{answerRow, checkedRow, writtenRow, steppedRow, placeSize, rowMost, served, needed, relayWith, startedNumber, givenUpNumber, numbered, startedAs, releasedAs, rowed, doneAs, wrote, writtenAs};
 
 // Stores a number in a row; past the end, nothing.
 fn put_at(row: &mut [u64], i: usize, v: usize)
@@ -132,6 +139,68 @@ fn given_up_number(g: GivenUp) -> usize
         GivenUp::Freed => 0,
         GivenUp::Refused(r) => paper::number(r),
     }
+}
+
+fn desks_served(n: usize) -> usize
+    ensures { λ r. ⌜ (r ≡ served n) × (r ≤ desksMost) ⌝ }
+{
+    if DESKS_MOST < n {
+        return 0;
+    }
+    n
+}
+
+// The bytes of a place.
+#[no_mangle]
+pub extern "C" fn spindlefig_place_size() -> usize
+    ensures { λ r. ⌜ r ≡ placeSize ⌝ }
+{
+    1472
+}
+
+// The least output that receive takes; it holds any sample.
+#[no_mangle]
+pub extern "C" fn spindlefig_output() -> usize
+    ensures { λ r. ⌜ r ≡ sampleMost ⌝ }
+{
+    SAMPLE_MOST
+}
+
+// The numbers that hold the row of any answer.
+#[no_mangle]
+pub extern "C" fn spindlefig_row() -> usize
+    ensures { λ r. ⌜ r ≡ rowMost ⌝ }
+{
+    9
+}
+
+// What n desks need, in elements; 0 where n is not 1 to 8.
+#[no_mangle]
+pub extern "C" fn spindlefig_places(n: usize) -> usize
+    ensures { λ r. ⌜ r ≡ needed placesEach n ⌝ }
+{
+    PLACES_EACH * desks_served(n)
+}
+
+#[no_mangle]
+pub extern "C" fn spindlefig_rows(n: usize) -> usize
+    ensures { λ r. ⌜ r ≡ needed finishedMost n ⌝ }
+{
+    FINISHED_MOST * desks_served(n)
+}
+
+#[no_mangle]
+pub extern "C" fn spindlefig_marks(n: usize) -> usize
+    ensures { λ r. ⌜ r ≡ needed marksEach n ⌝ }
+{
+    MARKS_EACH * desks_served(n)
+}
+
+#[no_mangle]
+pub extern "C" fn spindlefig_stores(n: usize) -> usize
+    ensures { λ r. ⌜ r ≡ needed storeSize n ⌝ }
+{
+    STORE_SIZE * desks_served(n)
 }
 
 // Makes what n desks need fresh. Answers 0, or 1 where it is refused.

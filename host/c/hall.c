@@ -1,0 +1,121 @@
+/* A caption hall in C: two desks, one caption cut and joined again, one style, one refusal. Prints what the screens show. */
+#include "spindlefig.h"
+
+#include <stdio.h>
+#include <stdlib.h>
+#include <string.h>
+
+enum { DESKS = 2, LIMIT = 30 };
+
+typedef struct {
+    spindlefig_place *places;
+    uint32_t *rows;
+    uint32_t *marks;
+    uint8_t *stores;
+    uint8_t out[1024];
+    uint64_t row[9];
+} hall;
+
+static void need(int holds, const char *what) {
+    if (!holds) {
+        fprintf(stderr, "hall: %s\n", what);
+        exit(1);
+    }
+}
+
+static void *memory(size_t count, size_t size) {
+    void *p = calloc(count, size);
+    need(p != NULL, "no memory");
+    return p;
+}
+
+/* The memory is asked for by the exported sizes, so nobody counts by hand. */
+static hall open_hall(void) {
+    hall h = {0};
+    need(spindlefig_place_size() == sizeof(spindlefig_place), "a place has another size");
+    need(spindlefig_output() == sizeof h.out, "the least output is another");
+    need(spindlefig_row() == sizeof h.row / sizeof h.row[0], "a row has another length");
+    h.places = memory(spindlefig_places(DESKS), sizeof(spindlefig_place));
+    h.rows = memory(spindlefig_rows(DESKS), sizeof(uint32_t));
+    h.marks = memory(spindlefig_marks(DESKS), sizeof(uint32_t));
+    h.stores = memory(spindlefig_stores(DESKS), 1);
+    need(spindlefig_set_up(DESKS, h.places, spindlefig_places(DESKS), h.rows, spindlefig_rows(DESKS), h.marks,
+                           spindlefig_marks(DESKS), h.stores, spindlefig_stores(DESKS)) == 0,
+         "set-up is refused");
+    return h;
+}
+
+static void close_hall(hall *h) {
+    free(h->places);
+    free(h->rows);
+    free(h->marks);
+    free(h->stores);
+}
+
+static void receive(hall *h, size_t desk, uint32_t time, const uint8_t *rest, size_t len) {
+    size_t used = spindlefig_receive(DESKS, h->places, spindlefig_places(DESKS), h->rows, spindlefig_rows(DESKS), h->marks,
+                                     spindlefig_marks(DESKS), h->stores, spindlefig_stores(DESKS), desk, time, rest, len,
+                                     h->out, sizeof h->out, h->row, 9);
+    need(used == h->row[0], "the row tells other bytes used");
+    printf("desk %zu time %u used %zu next %llu kind %llu", desk, time, used, (unsigned long long)h->row[1],
+           (unsigned long long)h->row[2]);
+    if (h->row[2] == SPINDLEFIG_KEPT || h->row[2] == SPINDLEFIG_REFUSED)
+        printf(" %llu", (unsigned long long)h->row[3]);
+    if (h->row[2] == SPINDLEFIG_WHOLE || h->row[2] == SPINDLEFIG_JOINED)
+        printf(" shows: %.*s", (int)h->row[7], (const char *)h->out);
+    printf("\n");
+}
+
+/* Cuts a caption by the writer and plays its payloads, the last first. */
+static void play_caption(hall *h, size_t desk, uint32_t time, const char *text, const uint8_t *modifiers, size_t len) {
+    uint8_t payload[LIMIT];
+    size_t k = 1;
+    spindlefig_write(0, 128, 500, (const uint8_t *)text, strlen(text), modifiers, len, LIMIT, 1, payload, LIMIT, h->row, 9);
+    need(h->row[0] == 0, "the writer refuses");
+    for (k = h->row[2]; k > 0; k--) {
+        spindlefig_write(0, 128, 500, (const uint8_t *)text, strlen(text), modifiers, len, LIMIT, k, payload, LIMIT, h->row, 9);
+        receive(h, desk, time, payload, h->row[1]);
+    }
+}
+
+static void play_style(hall *h, size_t desk, const char *style) {
+    uint8_t payload[LIMIT];
+    uint8_t shown[256];
+    size_t len;
+    spindlefig_describe(7, (const uint8_t *)style, strlen(style), LIMIT, 1, payload, LIMIT, h->row, 9);
+    need(h->row[0] == 0, "the description is refused");
+    receive(h, desk, 0, payload, h->row[1]);
+    len = spindlefig_lookup(DESKS, h->marks, spindlefig_marks(DESKS), h->stores, spindlefig_stores(DESKS), desk, 7,
+                            (const uint8_t *)"", 0, shown, sizeof shown);
+    printf("style 7 of desk %zu is %.*s\n", desk, (int)len, (const char *)shown);
+}
+
+static void walk(hall *h, const uint8_t *modifiers, size_t len) {
+    size_t at = 0;
+    spindlefig_box(modifiers, len, at, h->row, 9);
+    while (h->row[1] == 1) {
+        printf("box %.4s with %llu bytes\n", (const char *)modifiers + at + 4, (unsigned long long)h->row[0] - at - 8);
+        at = (size_t)h->row[0];
+        spindlefig_box(modifiers, len, at, h->row, 9);
+    }
+    printf("walk ends with %llu\n", (unsigned long long)h->row[1]);
+}
+
+int main(void) {
+    static const uint8_t blink[12] = {0, 0, 0, 12, 'b', 'l', 'n', 'k', 0, 0, 0, 3};
+    static const uint8_t bad[5] = {1, 0, 0, 128, 0};
+    hall h = open_hall();
+    play_caption(&h, 0, 1000, "The fox enters, and the hens laugh.", blink, sizeof blink);
+    receive(&h, 1, 1000, bad, sizeof bad);
+    play_style(&h, 1, "green");
+    play_style(&h, 1, "white");
+    walk(&h, blink, sizeof blink);
+    printf("give-up of a sample not open: %zu\n",
+           spindlefig_give_up(DESKS, h.places, spindlefig_places(DESKS), h.rows, spindlefig_rows(DESKS), h.marks,
+                              spindlefig_marks(DESKS), 0, 1000));
+    spindlefig_check(bad, sizeof bad, h.row, 9);
+    printf("a book of 5 bytes: %llu, record %llu\n", (unsigned long long)h.row[0], (unsigned long long)h.row[1]);
+    printf("the first character of \xc3\xa9t\xc3\xa9 has %zu bytes\n", spindlefig_character(0, (const uint8_t *)"\xc3\xa9t\xc3\xa9", 5, 0));
+    close_hall(&h);
+    return 0;
+}

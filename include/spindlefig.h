@@ -1,0 +1,110 @@
+/*
+ * Spindlefig for C: a caption relay for up to eight desks, over memory that the caller lends.
+ *
+ * Link with libexport.a, which `rt staticlib export` writes to target/staticlib (x86-64).
+ *
+ * A slice goes as a pointer and a length, counted in elements. The pointer is not null, also where the length is 0; lent slices do not
+ * overlap. Beyond that nothing has to be checked beforehand: what is wrong is refused by its number, 1 to 16, and a row that is too
+ * short gets what fits. What each call answers and leaves is proved in crates/export, for every input.
+ */
+#ifndef SPINDLEFIG_H
+#define SPINDLEFIG_H
+
+#include <stddef.h>
+#include <stdint.h>
+
+#ifdef __cplusplus
+extern "C" {
+#endif
+
+/* The place of one open sample; what is in it is the relay's own business. */
+typedef struct {
+    uint64_t words[184];
+} spindlefig_place;
+
+/* ---- What n desks need, in elements; 0 where n is not 1 to 8. ---- */
+size_t spindlefig_places(size_t n); /* places */
+size_t spindlefig_rows(size_t n);   /* finished times */
+size_t spindlefig_marks(size_t n);  /* marks */
+size_t spindlefig_stores(size_t n); /* bytes of descriptions */
+
+size_t spindlefig_place_size(void); /* the bytes of a place: sizeof(spindlefig_place) */
+size_t spindlefig_output(void);     /* the least output that receive takes, which holds any sample */
+size_t spindlefig_row(void);        /* the numbers that hold any answer */
+
+/* ---- Kinds of outcomes, and the numbers that follow used, next and kind in the row of an answer. ---- */
+enum {
+    SPINDLEFIG_END = 0,       /* the rest was empty */
+    SPINDLEFIG_WHOLE = 1,     /* time, u, sidx, sdur, string length, sample length; the sample stands at the front of the output */
+    SPINDLEFIG_JOINED = 2,    /* the same */
+    SPINDLEFIG_KEPT = 3,      /* how many parts are missing */
+    SPINDLEFIG_REPEAT = 4,
+    SPINDLEFIG_DESCRIBED = 5,
+    SPINDLEFIG_SKIPPED = 6,   /* the TYPE */
+    SPINDLEFIG_REFUSED = 7    /* the refusal */
+};
+
+/* Makes what n desks need fresh. Answers 0, or 1 where n is not 1 to 8 or something is too short. */
+size_t spindlefig_set_up(size_t n,
+                         spindlefig_place *places, size_t places_len,
+                         uint32_t *rows, size_t rows_len,
+                         uint32_t *marks, size_t marks_len,
+                         uint8_t *stores, size_t stores_len);
+
+/* Takes the unit at the front of the rest. The row gets: bytes used, next running time, kind, and the numbers of the kind.
+ * Answers the bytes used: hand `next` back as the time, and go on so many bytes further, until the kind is the end. */
+size_t spindlefig_receive(size_t desks,
+                          spindlefig_place *places, size_t places_len,
+                          uint32_t *rows, size_t rows_len,
+                          uint32_t *marks, size_t marks_len,
+                          uint8_t *stores, size_t stores_len,
+                          size_t desk, uint32_t time,
+                          const uint8_t *rest, size_t rest_len,
+                          uint8_t *out, size_t out_len,
+                          uint64_t *row, size_t row_len);
+
+/* Frees an open sample and marks its time finished. Answers 0, or 1 or 11. */
+size_t spindlefig_give_up(size_t desks,
+                          spindlefig_place *places, size_t places_len,
+                          uint32_t *rows, size_t rows_len,
+                          uint32_t *marks, size_t marks_len,
+                          size_t desk, uint32_t time);
+
+/* Writes the description that an index shows to the front of the output (256 bytes hold any) and answers its length; 0: none. */
+size_t spindlefig_lookup(size_t desks,
+                         const uint32_t *marks, size_t marks_len,
+                         const uint8_t *stores, size_t stores_len,
+                         size_t desk, size_t index,
+                         const uint8_t *book, size_t book_len,
+                         uint8_t *out, size_t out_len);
+
+/* Checks a style book. The row gets: 0 and how many records, or 16 and the first bad record's number. */
+void spindlefig_check(const uint8_t *book, size_t book_len, uint64_t *row, size_t row_len);
+
+/* Writes payload k (from 1) of a sample, at most m bytes. The row gets: 0, its length and how many there are, or 12, 13 or 14. */
+void spindlefig_write(size_t u, size_t sidx, size_t sdur,
+                      const uint8_t *string, size_t string_len,
+                      const uint8_t *modifiers, size_t modifiers_len,
+                      size_t m, size_t k,
+                      uint8_t *out, size_t out_len,
+                      uint64_t *row, size_t row_len);
+
+/* Writes the payload of a description; the row as above. */
+void spindlefig_describe(size_t sidx,
+                         const uint8_t *description, size_t description_len,
+                         size_t m, size_t k,
+                         uint8_t *out, size_t out_len,
+                         uint64_t *row, size_t row_len);
+
+/* What stands at a place of the modifiers. The row gets: the next place, then 0 at the end, 1 and the type for a box, or 15.
+ * A box's contents are the bytes from its place and 8 on, up to the next place. */
+void spindlefig_box(const uint8_t *modifiers, size_t modifiers_len, size_t at, uint64_t *row, size_t row_len);
+
+/* The length in bytes of the character at a place (u 0: UTF-8, else UTF-16 big-endian), and 0 where none is well-formed. */
+size_t spindlefig_character(size_t u, const uint8_t *s, size_t s_len, size_t at);
+
+#ifdef __cplusplus
+}
+#endif
+
+#endif
