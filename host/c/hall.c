@@ -45,6 +45,13 @@ static hall open_hall(void) {
     return h;
 }
 
+/* One place fewer than two desks need: set-up refuses by 1, and the hall's tables stay as they are. */
+static void refuse_short(hall *h) {
+    printf("set-up with a place too few: %zu\n",
+           spindlefig_set_up(DESKS, h->places, spindlefig_places(DESKS) - 1, h->rows, spindlefig_rows(DESKS), h->marks,
+                             spindlefig_marks(DESKS), h->stores, spindlefig_stores(DESKS)));
+}
+
 static void close_hall(hall *h) {
     free(h->places);
     free(h->rows);
@@ -108,6 +115,7 @@ int main(void) {
     play_caption(&h, 0, 1000, "The fox enters, and the hens laugh.", blink, sizeof blink);
     receive(&h, 1, 1000, bad, sizeof bad);
     play_style(&h, 1, "green");
+    refuse_short(&h);
     play_style(&h, 1, "white");
     walk(&h, blink, sizeof blink);
     printf("give-up of a sample not open: %zu\n",

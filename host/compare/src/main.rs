@@ -1,0 +1,90 @@
+//! Compares the proved relay with the second one on random and damaged runs.
+
+mod call;
+mod comparison;
+mod generator;
+mod log;
+mod opinion;
+mod player;
+mod random;
+mod tally;
+#[cfg(test)]
+mod tests;
+
+use second::Second;
+use spindlefig::Relay;
+use std::env;
+use std::fs;
+use std::process::ExitCode;
+use tally::Tally;
+
+const USAGE: &str = "\
+compare [SEED [COUNT [LOG]]]
+
+Plays random and damaged runs through the proved relay and through the second
+one, and compares every answer and every output byte of COUNT calls.
+
+  SEED   which runs to play (1)
+  COUNT  how many calls to compare (2000000)
+  LOG    the file for the calls of a run with a difference (difference.log)";
+
+/// From this count on every refusal has to be seen this often.
+const LARGE_COUNT: u64 = 1_000_000;
+const OFTEN: u64 = 1_000;
+
+struct Arguments {
+    seed: u64,
+    count: u64,
+    log: String,
+}
+
+fn arguments(words: &[String]) -> Option<Arguments> {
+    let number = |place: usize, default| match words.get(place) {
+        Some(word) => word.parse().ok(),
+        None => Some(default),
+    };
+    let log = words.get(2).map_or("difference.log", String::as_str);
+    (words.len() <= 3).then_some(Arguments {
+        seed: number(0, 1)?,
+        count: number(1, 2_000_000)?,
+        log: log.to_string(),
+    })
+}
+
+fn compare(arguments: &Arguments) -> ExitCode {
+    let mut tally = Tally::default();
+    let compared =
+        comparison::compare::<Relay, Second>(arguments.seed, arguments.count, &mut tally);
+    println!("{tally}");
+    if let Err(found) = compared {
+        println!("difference: {}", found.difference.what);
+        let log = log::text(&found.run, &found.difference);
+        match fs::write(&arguments.log, log) {
+            Ok(()) => println!("the calls are in {}", arguments.log),
+            Err(error) => println!("{} cannot be written: {error}", arguments.log),
+        }
+        return ExitCode::FAILURE;
+    }
+    println!("no difference");
+    let rare = tally.rarer_than(OFTEN);
+    if arguments.count >= LARGE_COUNT && !rare.is_empty() {
+        println!("refusals seen fewer than {OFTEN} times: {rare:?}");
+        return ExitCode::FAILURE;
+    }
+    ExitCode::SUCCESS
+}
+
+fn main() -> ExitCode {
+    let words: Vec<String> = env::args().skip(1).collect();
+    if words.iter().any(|word| word == "--help") {
+        println!("{USAGE}");
+        return ExitCode::SUCCESS;
+    }
+    match arguments(&words) {
+        Some(arguments) => compare(&arguments),
+        None => {
+            eprintln!("{USAGE}");
+            ExitCode::from(2)
+        }
+    }
+}

@@ -1,0 +1,200 @@
+//! Opinions that are wrong on purpose have to be found out.
+
+use crate::comparison::{compare, Found};
+use crate::log;
+use crate::opinion::{Caption, Opinion, Written};
+use crate::tally::Tally;
+use second::{Answer, Outcome, Second, Step};
+use std::collections::HashMap;
+
+const SET_UP: u8 = 0;
+const ARRIVAL_ORDER: u8 = 1;
+const FORGETS_LATE: u8 = 2;
+const GIVE_UP: u8 = 3;
+const LOOK: u8 = 4;
+const WRITE: u8 = 5;
+const DESCRIBE: u8 = 6;
+const CHECK: u8 = 7;
+const STEP: u8 = 8;
+
+/// The second relay with one mistake.
+struct Wrong<const MISTAKE: u8> {
+    second: Second,
+    arrived: HashMap<(usize, u32), Vec<u8>>,
+}
+
+impl<const MISTAKE: u8> Wrong<MISTAKE> {
+    /// Lays the parts of a joined sample down as they came.
+    fn lay_as_arrived(&mut self, name: (usize, u32), rest: &[u8], out: &mut [u8], answer: &Answer) {
+        let start = if rest.first().is_some_and(|first| first & 7 == 2) {
+            10
+        } else {
+            7
+        };
+        let data = rest.get(start..answer.used).unwrap_or_default();
+        match answer.outcome {
+            Outcome::Kept(_) => self.arrived.entry(name).or_default().extend(data),
+            Outcome::Joined(_) => {
+                let mut sample = self.arrived.remove(&name).unwrap_or_default();
+                sample.extend(data);
+                out[..sample.len()].copy_from_slice(&sample);
+            }
+            _ => {}
+        }
+    }
+}
+
+impl<const MISTAKE: u8> Opinion for Wrong<MISTAKE> {
+    fn set_up(n: usize) -> Result<Self, u8> {
+        let n = if MISTAKE == SET_UP && n == 9 { 8 } else { n };
+        let second = Second::set_up(n)?;
+        let arrived = HashMap::new();
+        Ok(Wrong { second, arrived })
+    }
+
+    fn receive(&mut self, desk: usize, time: u32, rest: &[u8], out: &mut [u8]) -> Answer {
+        let mut answer = self.second.receive(desk, time, rest, out);
+        if MISTAKE == FORGETS_LATE && answer.outcome == Outcome::Refused(6) {
+            answer.outcome = Outcome::Repeat;
+        }
+        if MISTAKE == ARRIVAL_ORDER {
+            self.lay_as_arrived((desk, time), rest, out, &answer);
+        }
+        answer
+    }
+
+    fn give_up(&mut self, desk: usize, time: u32) -> Result<(), u8> {
+        let answer = self.second.give_up(desk, time);
+        if MISTAKE == GIVE_UP && answer == Err(11) {
+            return Ok(());
+        }
+        answer
+    }
+
+    fn look(&self, desk: usize, index: usize, book: &[u8]) -> Vec<u8> {
+        let mut shown = self.second.look(desk, index, book);
+        if MISTAKE == LOOK {
+            shown.truncate(255);
+        }
+        shown
+    }
+
+    fn write(caption: &Caption, m: usize, k: usize, out: &mut [u8]) -> Written {
+        let (length, count) = <Second as Opinion>::write(caption, m, k, out)?;
+        if let (WRITE, Some(behind)) = (MISTAKE, out.get_mut(length)) {
+            *behind = behind.wrapping_add(1);
+        }
+        Ok((length, count))
+    }
+
+    fn describe(sidx: usize, d: &[u8], m: usize, k: usize, out: &mut [u8]) -> Written {
+        let k = if MISTAKE == DESCRIBE { 1 } else { k };
+        second::describe(sidx, d, m, k, out)
+    }
+
+    fn check(book: &[u8]) -> Result<usize, usize> {
+        let whole = book.len() - book.len() % 260;
+        second::check(if MISTAKE == CHECK {
+            &book[..whole]
+        } else {
+            book
+        })
+    }
+
+    fn step(modifiers: &[u8], at: usize) -> Step<'_> {
+        if MISTAKE == STEP && at > modifiers.len() {
+            return Step::End;
+        }
+        second::step(modifiers, at)
+    }
+}
+
+/// The first difference between the second relay and one with a mistake.
+fn found<const MISTAKE: u8>() -> Found {
+    let mut tally = Tally::default();
+    let compared = compare::<Second, Wrong<MISTAKE>>(7, 100_000, &mut tally);
+    compared.expect_err("the mistake is found")
+}
+
+fn is_hex(word: &str) -> bool {
+    let digits = |word: &str| word.bytes().all(|byte| byte.is_ascii_hexdigit());
+    word == "-" || !word.is_empty() && word.len().is_multiple_of(2) && digits(word)
+}
+
+/// What words follow the name of a call: `n` a number, `h` hexadecimal digits.
+fn form(name: &str) -> &'static str {
+    match name {
+        "set-up" => "n",
+        "receive" | "look" => "nnh",
+        "give-up" => "nn",
+        "write" => "nnnhhnn",
+        "describe" => "nhnn",
+        "book" => "h",
+        "walk" => "hn",
+        _ => panic!("{name} is no call"),
+    }
+}
+
+fn assert_well_formed(line: &str) {
+    let mut words = line.split(' ');
+    let form = form(words.next().unwrap_or_default());
+    let words: Vec<_> = words.collect();
+    assert_eq!(words.len(), form.len(), "{line}");
+    for (word, letter) in words.iter().zip(form.chars()) {
+        let good = match letter {
+            'n' => word.parse::<usize>().is_ok(),
+            _ => is_hex(word),
+        };
+        assert!(good, "{word} in {line}");
+    }
+}
+
+/// Finds the mistake and checks its log, whose last call is `last`.
+fn assert_found<const MISTAKE: u8>(last: &str) {
+    let found = found::<MISTAKE>();
+    let log = log::text(&found.run, &found.difference);
+    let (comments, calls): (Vec<_>, Vec<_>) = log.lines().partition(|line| line.starts_with('#'));
+    calls.iter().for_each(|call| assert_well_formed(call));
+    assert_eq!(calls[0], format!("set-up {}", found.run.n));
+    let call = calls.last().and_then(|line| line.split(' ').next());
+    assert_eq!(call, Some(last));
+    assert_eq!(comments.len() + calls.len(), found.difference.calls + 2);
+    assert!(log.ends_with(&format!("# {}\n", found.difference.what)));
+}
+
+#[test]
+fn every_mistake_is_found_and_logged() {
+    assert_found::<SET_UP>("set-up");
+    assert_found::<ARRIVAL_ORDER>("receive");
+    assert_found::<FORGETS_LATE>("receive");
+    assert_found::<GIVE_UP>("give-up");
+    assert_found::<LOOK>("look");
+    assert_found::<WRITE>("write");
+    assert_found::<DESCRIBE>("describe");
+    assert_found::<CHECK>("book");
+    assert_found::<STEP>("walk");
+}
+
+#[test]
+fn an_opinion_agrees_with_itself_and_the_same_seed_gives_the_same_calls() {
+    let tallies = [3, 3, 4].map(|seed| {
+        let mut tally = Tally::default();
+        let compared = compare::<Second, Second>(seed, 20_000, &mut tally);
+        assert!(compared.is_ok());
+        assert_eq!(tally.calls(), 20_000);
+        tally.to_string()
+    });
+    assert_eq!(tallies[0], tallies[1]);
+    assert_ne!(tallies[0], tallies[2]);
+}
+
+#[test]
+fn a_call_with_a_short_output_is_logged_as_a_comment() {
+    let found = found::<FORGETS_LATE>();
+    for call in &found.run.calls {
+        let short = call.short_output().is_some();
+        let line = log::line(call);
+        assert_eq!(line.starts_with("# output of "), short);
+        assert!(line.ends_with(&call.to_string()));
+    }
+}

@@ -1,0 +1,216 @@
+use std::fmt;
+
+use crate::sys::Tables;
+use crate::{Answer, Refusal};
+
+/// The least output that [`Relay::receive`] takes: no sample is longer.
+pub const OUTPUT: usize = 1024;
+
+/// The most bytes of a description.
+pub const DESCRIPTION: usize = 256;
+
+/// A relay for up to eight desks, with the memory that it works in.
+///
+/// A caption in two parts, the string and then a blinking (document 01, cases 7 and 8):
+///
+/// ```
+/// use spindlefig::{Outcome, Relay, OUTPUT};
+///
+/// let mut relay = Relay::set_up(1)?;
+/// let mut out = [0; OUTPUT];
+/// let string = b"\x02\x00\x0b\x21\x00\x00\x64\x80\x00\x0eHi";
+/// let blink = b"\x03\x00\x12\x22\x00\x00\x64\x00\x00\x00\x0cblnk\x00\x00\x00\x01";
+///
+/// let answer = relay.receive(0, 1000, string, &mut out);
+/// assert_eq!(answer.outcome, Outcome::Kept(1));
+///
+/// let answer = relay.receive(0, 1000, blink, &mut out);
+/// let facts = answer.outcome.facts().expect("the sample is joined");
+/// assert_eq!((facts.string, facts.sample), (2, 14));
+/// assert_eq!(&out[..facts.string], b"Hi");
+/// assert_eq!(answer.next, 1100);
+/// # Ok::<(), spindlefig::Refusal>(())
+/// ```
+#[derive(Clone)]
+pub struct Relay {
+    tables: Tables,
+}
+
+impl fmt::Debug for Relay {
+    fn fmt(&self, f: &mut fmt::Formatter) -> fmt::Result {
+        f.debug_struct("Relay")
+            .field("desks", &self.desks())
+            .finish_non_exhaustive()
+    }
+}
+
+impl Relay {
+    /// A fresh relay for 1 to 8 desks; another number is refusal 1.
+    ///
+    /// ```
+    /// use spindlefig::{Refusal, Relay};
+    ///
+    /// assert_eq!(Relay::set_up(8)?.desks(), 8);
+    /// assert_eq!(Relay::set_up(9).unwrap_err(), Refusal::Desk);
+    /// # Ok::<(), Refusal>(())
+    /// ```
+    pub fn set_up(desks: usize) -> Result<Relay, Refusal> {
+        match Tables::set_up(desks) {
+            Ok(tables) => Ok(Relay { tables }),
+            Err(number) => Err(Refusal::told(number as u64)),
+        }
+    }
+
+    /// How many desks there are; they are counted from 0.
+    pub fn desks(&self) -> usize {
+        self.tables.desks()
+    }
+
+    /// Takes the unit at the front of the rest of a payload, and allocates nothing.
+    ///
+    /// `time` is the running time: the packet's timestamp for the first unit, then each answer's
+    /// `next`. After whole and joined the sample stands at the front of `out`, which has to have
+    /// [`OUTPUT`] bytes at least; what lies behind it stays.
+    ///
+    /// ```
+    /// use spindlefig::{Outcome, Refusal, Relay, OUTPUT};
+    ///
+    /// let mut relay = Relay::set_up(1)?;
+    /// let mut out = [0; OUTPUT];
+    /// let answer = relay.receive(0, 1000, b"\x01\x00\x0a\x80\x01\x5f\x90\x00\x02Hi", &mut out);
+    /// assert_eq!((answer.used, answer.next), (11, 91000));
+    /// assert!(matches!(answer.outcome, Outcome::Whole(_)));
+    /// assert_eq!(&out[..2], b"Hi");
+    ///
+    /// let answer = relay.receive(0, 91000, b"\x01\x00\x01", &mut out);
+    /// assert_eq!(answer.outcome, Outcome::Refused(Refusal::Frame));
+    /// # Ok::<(), Refusal>(())
+    /// ```
+    pub fn receive(&mut self, desk: usize, time: u32, rest: &[u8], out: &mut [u8]) -> Answer {
+        Answer::told(&self.tables.receive(desk, time, rest, out))
+    }
+
+    /// Goes through the units of a payload, handing the running time on: one item a unit.
+    ///
+    /// It ends at the payload's end, and after an answer that used no bytes (refusal 1). An empty
+    /// payload has no units.
+    ///
+    /// ```
+    /// use spindlefig::{Outcome, Relay};
+    ///
+    /// let payload = b"\x01\x00\x0a\x80\x01\x5f\x90\x00\x02Hi\x06\x00\x02";
+    /// let mut relay = Relay::set_up(1)?;
+    /// let heard: Vec<_> = relay.units(0, 0, payload).collect();
+    /// assert_eq!(heard.len(), 2);
+    /// assert_eq!(heard[0].sample, b"Hi");
+    /// assert_eq!((heard[1].at, heard[1].time), (11, 90000));
+    /// assert_eq!(heard[1].answer.outcome, Outcome::Skipped(6));
+    /// # Ok::<(), spindlefig::Refusal>(())
+    /// ```
+    pub fn units<'a>(&'a mut self, desk: usize, time: u32, payload: &'a [u8]) -> Units<'a> {
+        Units {
+            relay: self,
+            desk,
+            time,
+            payload,
+            at: 0,
+            stopped: false,
+        }
+    }
+
+    /// Gives up the desk's open sample of this time: its place is free, and parts of it that come
+    /// now are late.
+    ///
+    /// ```
+    /// use spindlefig::{Outcome, Refusal, Relay, OUTPUT};
+    ///
+    /// let part = b"\x02\x00\x0b\x21\x00\x00\x64\x80\x00\x0eHi";
+    /// let mut relay = Relay::set_up(1)?;
+    /// let mut out = [0; OUTPUT];
+    /// assert_eq!(relay.receive(0, 1000, part, &mut out).outcome, Outcome::Kept(1));
+    ///
+    /// assert_eq!(relay.give_up(0, 1000), Ok(()));
+    /// assert_eq!(relay.give_up(0, 1000), Err(Refusal::NotOpen));
+    /// let answer = relay.receive(0, 1000, part, &mut out);
+    /// assert_eq!(answer.outcome, Outcome::Refused(Refusal::Late));
+    /// # Ok::<(), Refusal>(())
+    /// ```
+    pub fn give_up(&mut self, desk: usize, time: u32) -> Result<(), Refusal> {
+        match self.tables.give_up(desk, time) {
+            0 => Ok(()),
+            number => Err(Refusal::told(number as u64)),
+        }
+    }
+
+    /// The description of an index: the desk's own (0 to 127) or the style book's (128 to 254).
+    /// Empty where there is none.
+    ///
+    /// ```
+    /// use spindlefig::{Outcome, Relay, OUTPUT};
+    ///
+    /// let mut relay = Relay::set_up(2)?;
+    /// let answer = relay.receive(1, 0, b"\x05\x00\x08\x07green", &mut [0; OUTPUT]);
+    /// assert_eq!(answer.outcome, Outcome::Described);
+    /// assert_eq!(relay.lookup(1, 7, &[]), b"green");
+    /// assert!(relay.lookup(0, 7, &[]).is_empty());
+    ///
+    /// let mut book = b"\x80\x00\x00\x05black".to_vec();
+    /// book.resize(260, 0);
+    /// assert_eq!(relay.lookup(0, 128, &book), b"black");
+    /// # Ok::<(), spindlefig::Refusal>(())
+    /// ```
+    pub fn lookup(&self, desk: usize, index: usize, book: &[u8]) -> Vec<u8> {
+        let mut out = [0; DESCRIPTION];
+        let len = self.tables.lookup(desk, index, book, &mut out);
+        out[..len].to_vec()
+    }
+}
+
+/// One unit of a payload, and what became of it.
+#[derive(Debug, Clone, PartialEq, Eq)]
+pub struct Heard {
+    /// Where the unit begins in the payload.
+    pub at: usize,
+    /// Its running time.
+    pub time: u32,
+    /// The relay's answer.
+    pub answer: Answer,
+    /// The sample that is handed out, string and modifiers; empty but for whole and joined.
+    pub sample: Vec<u8>,
+}
+
+/// The units of a payload; see [`Relay::units`].
+#[derive(Debug)]
+pub struct Units<'a> {
+    relay: &'a mut Relay,
+    desk: usize,
+    time: u32,
+    payload: &'a [u8],
+    at: usize,
+    stopped: bool,
+}
+
+impl Iterator for Units<'_> {
+    type Item = Heard;
+
+    fn next(&mut self) -> Option<Heard> {
+        if self.stopped || self.at == self.payload.len() {
+            return None;
+        }
+        let mut out = [0; OUTPUT];
+        let (at, time) = (self.at, self.time);
+        let answer = self
+            .relay
+            .receive(self.desk, time, &self.payload[at..], &mut out);
+        self.at += answer.used;
+        self.time = answer.next;
+        self.stopped = answer.used == 0;
+        let len = answer.outcome.facts().map_or(0, |facts| facts.sample);
+        Some(Heard {
+            at,
+            time,
+            answer,
+            sample: out[..len].to_vec(),
+        })
+    }
+}

@@ -1,0 +1,90 @@
+//! What only a caller in Rust can ask of the relay.
+
+use spindlefig::{Caption, Outcome, Refusal, Relay, Writer, DESCRIPTION, OUTPUT};
+
+const HI: &[u8] = b"\x01\x00\x0a\x80\x01\x5f\x90\x00\x02Hi";
+
+#[test]
+fn a_short_output_is_refused_and_uses_nothing() {
+    let mut relay = Relay::set_up(1).unwrap();
+    let mut out = [7; OUTPUT - 1];
+    let answer = relay.receive(0, 1000, HI, &mut out);
+    assert_eq!(answer.outcome, Outcome::Refused(Refusal::Output));
+    assert_eq!((answer.used, answer.next), (0, 1000));
+    assert_eq!(out, [7; OUTPUT - 1]);
+}
+
+#[test]
+fn what_lies_behind_the_sample_stays() {
+    let mut relay = Relay::set_up(1).unwrap();
+    let mut out = [7; OUTPUT + 1];
+    relay.receive(0, 1000, HI, &mut out);
+    assert_eq!(&out[..2], b"Hi");
+    assert!(out[2..].iter().all(|byte| *byte == 7));
+}
+
+#[test]
+fn units_end_where_no_bytes_are_used() {
+    let mut relay = Relay::set_up(1).unwrap();
+    let heard: Vec<_> = relay.units(1, 5, HI).collect();
+    assert_eq!(heard.len(), 1);
+    assert_eq!(heard[0].answer.outcome, Outcome::Refused(Refusal::Desk));
+    assert_eq!(relay.units(0, 5, b"").count(), 0);
+}
+
+#[test]
+fn an_empty_rest_is_the_end() {
+    let mut relay = Relay::set_up(1).unwrap();
+    let answer = relay.receive(0, 5, b"", &mut [0; OUTPUT]);
+    assert_eq!(answer.outcome, Outcome::End);
+    assert_eq!((answer.used, answer.next), (0, 5));
+}
+
+#[test]
+fn a_clone_goes_its_own_way() {
+    let mut relay = Relay::set_up(8).unwrap();
+    let mut other = relay.clone();
+    let mut out = [0; OUTPUT];
+    let first = relay.receive(7, 1000, HI, &mut out).outcome;
+    let late = relay.receive(7, 1000, HI, &mut out).outcome;
+    assert_eq!(late, Outcome::Refused(Refusal::Late));
+    assert_eq!(other.receive(7, 1000, HI, &mut out).outcome, first);
+}
+
+#[test]
+fn the_longest_description_comes_back() {
+    let long = [9; DESCRIPTION];
+    let mut payload = [0; 300];
+    let written = Writer::new(300)
+        .describe(127, &long, 1, &mut payload)
+        .unwrap();
+    let mut relay = Relay::set_up(3).unwrap();
+    let described = relay.receive(2, 0, &payload[..written.len], &mut [0; OUTPUT]);
+    assert_eq!(described.outcome, Outcome::Described);
+    assert_eq!(relay.lookup(2, 127, &[]), long);
+    assert!(relay.lookup(2, 255, &[]).is_empty());
+}
+
+#[test]
+fn the_largest_caption_comes_back_from_fifteen_parts_in_any_order() {
+    let text = "Der Fuchs grüßt die Hühner. ".repeat(35);
+    let caption = Caption {
+        u: 0,
+        sidx: 254,
+        sdur: 0xff_ffff,
+        string: &text.as_bytes()[..1012],
+        modifiers: b"\x00\x00\x00\x0cblnk\x00\x00\x00\x01",
+    };
+    let payloads = Writer::new(84).payloads(&caption).unwrap();
+    assert_eq!(payloads.len(), 15);
+    let mut relay = Relay::set_up(1).unwrap();
+    let mut heard = Vec::new();
+    for payload in payloads.iter().rev() {
+        heard.extend(relay.units(0, u32::MAX, payload));
+    }
+    assert_eq!(heard[0].answer.next, 0xff_fffe);
+    let last = heard.pop().unwrap();
+    assert_eq!(last.sample, [caption.string, caption.modifiers].concat());
+    assert_eq!(last.answer.next, u32::MAX);
+    assert!(heard.iter().all(|earlier| earlier.sample.is_empty()));
+}
