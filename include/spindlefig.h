@@ -3,9 +3,10 @@
  *
  * Link with libexport.a, which `rt staticlib export` writes to target/staticlib (x86-64).
  *
- * A slice goes as a pointer and a length, counted in elements. The pointer is not null, also where the length is 0; lent slices do not
- * overlap. Beyond that nothing has to be checked beforehand: what is wrong is refused by its number, 1 to 16, and a row that is too
- * short gets what fits. What each call answers and leaves is proved in crates/export, for every input.
+ * A slice goes as a pointer and a length, counted in elements: so much memory is there, the pointer is not null even where the length
+ * is 0, and slices of one call do not overlap. Places are cleared to zeros before set-up and then left to the relay. This is C's share;
+ * beyond it nothing has to be checked beforehand: what is wrong is refused by its number, 1 to 16, and a row that is too short gets
+ * what fits. What each call answers and leaves is proved in crates/export, for every input.
  */
 #ifndef SPINDLEFIG_H
 #define SPINDLEFIG_H
