@@ -156,7 +156,13 @@ fn hostile(desks: usize, full: bool) -> Load {
             }
         })
         .collect();
-    load("hostile mix".to_string(), desks, full, round, MIX as u32 / 4)
+    load(
+        "hostile mix".to_string(),
+        desks,
+        full,
+        round,
+        MIX as u32 / 4,
+    )
 }
 
 /// All that is measured.
