@@ -16,7 +16,8 @@ ghost use mathlib.Core.List.{List};
 ghost use Prim.Native.Nat.{ℕ};
 ghost use lib.ListN.{set};
 ghost use Rattle.finished.specs.Times.{late, markedRow, markedUsed};
-ghost use Rattle.desk.specs.Desk.{inUse, own, told, left, later, laterPart, facts, wholeTaken, sampleOf, conflicts, six, usedUp, completed, joining, partTaken, descriptionTaken, received, freed, givenUp};
+ghost use Rattle.unit.specs.Layout.{readOf};
+ghost use Rattle.desk.specs.Desk.{inUse, own, says, told, turn, left, isPart, passed, later, laterPart, facts, wholeTaken, sampleOf, conflicts, six, usedUp, completed, joining, partTaken, descriptionTaken, received, freed, givenUp};
 
 // How many samples the desk has open, the common use, and how many desks there are.
 pub struct Shares {
@@ -41,6 +42,16 @@ fn said(place: Place, used: usize, next: u32, outcome: Outcome) -> Turn
             next,
             outcome,
         },
+    }
+}
+
+fn says(used: usize, next: u32, outcome: Outcome) -> Answer
+    ensures { λ r. ⌜ r ≡ says used next outcome ⌝ }
+{
+    Answer {
+        used,
+        next,
+        outcome,
     }
 }
 
@@ -74,7 +85,7 @@ fn next_time(time: u32, x: Part) -> u32
 
 // TYPE 1.
 fn take_whole(
-    place: Place,
+    is_open: bool,
     row: &mut [u32],
     marks: &mut [u32],
     time: u32,
@@ -82,18 +93,18 @@ fn take_whole(
     w: Whole,
     d: &[u8],
     out: &mut [u8],
-) -> Turn
-    ensures { λ r. ⌜ ((store : List ℕ) → left r (now (row .exit)) (now (marks .exit)) store (now (out .exit)) ≡ wholeTaken (own place (now (row .entry)) (now (marks .entry)) store (now (out .entry))) time used w (now (d .entry))) ⌝ }
+) -> Answer
+    ensures { λ r. ⌜ ((p : Place) (store : List ℕ) → p .used ≡ is_open → left (turn p r) (now (row .exit)) (now (marks .exit)) store (now (out .exit)) ≡ wholeTaken (own p (now (row .entry)) (now (marks .entry)) store (now (out .entry))) time used w (now (d .entry))) ⌝ }
 {
     let next = add_time(time, w.sdur);
     if is_late(row, marks, time) {
-        return said(place, used, next, Outcome::Refused(Refusal::Late));
+        return says(used, next, Outcome::Refused(Refusal::Late));
     }
-    if place.used {
-        return said(place, used, next, Outcome::Refused(Refusal::Conflict));
+    if is_open {
+        return says(used, next, Outcome::Refused(Refusal::Conflict));
     }
     if SAMPLE_MOST < w.len {
-        return said(place, used, next, Outcome::Refused(Refusal::Size));
+        return says(used, next, Outcome::Refused(Refusal::Size));
     }
     octets::put(out, 0, d);
     finish(row, marks, time);
@@ -105,7 +116,7 @@ fn take_whole(
         string: w.tlen,
         sample: w.len,
     };
-    said(place, used, next, Outcome::Whole(facts))
+    says(used, next, Outcome::Whole(facts))
 }
 
 // The sample that a part belongs to.
@@ -256,20 +267,68 @@ fn take_part(
 
 // TYPE 5.
 fn take_description(
-    place: Place,
     marks: &mut [u32],
     store: &mut [u8],
     time: u32,
     used: usize,
     w: Description,
     d: &[u8],
-) -> Turn
-    ensures { λ r. ⌜ ((row out : List ℕ) → left r row (now (marks .exit)) (now (store .exit)) out ≡ descriptionTaken (own place row (now (marks .entry)) (now (store .entry)) out) time used w (now (d .entry))) ⌝ }
+) -> Answer
+    ensures { λ r. ⌜ ((p : Place) (row out : List ℕ) → left (turn p r) row (now (marks .exit)) (now (store .exit)) out ≡ descriptionTaken (own p row (now (marks .entry)) (now (store .entry)) out) time used w (now (d .entry))) ⌝ }
 {
     let r = style::note(store, octets::word(marks, 1) as usize, w.sidx, d);
     octets::put_word(marks, 1, (r.newest % 4294967296) as u32);
     let outcome = r.outcome;
-    said(place, used, time, outcome)
+    says(used, time, outcome)
+}
+
+// Whether a part is at the front of the rest.
+pub fn is_part(rest: &[u8]) -> bool
+    ensures { λ r. ⌜ r ≡ isPart (readOf (now (rest .entry)) .unit) ⌝ }
+{
+    let r = unit::read(rest);
+    let x = r.unit;
+    match x {
+        Unit::Part(_) => true,
+        _ => false,
+    }
+}
+
+// Takes a unit that is no part: it looks at no place, only whether a sample is open at this time. Of a part it takes nothing.
+pub fn pass(
+    is_open: bool,
+    row: &mut [u32],
+    marks: &mut [u32],
+    store: &mut [u8],
+    time: u32,
+    rest: &[u8],
+    out: &mut [u8],
+) -> Answer
+    ensures { λ r. ⌜ ((p : Place) → p .used ≡ is_open → left (turn p r) (now (row .exit)) (now (marks .exit)) (now (store .exit)) (now (out .exit)) ≡ passed (own p (now (row .entry)) (now (marks .entry)) (now (store .entry)) (now (out .entry))) time (now (rest .entry))) ⌝ }
+{
+    let r = unit::read(rest);
+    let used = r.used;
+    let x = r.unit;
+    match x {
+        Unit::End => says(used, time, Outcome::End),
+        Unit::Skipped(t) => says(used, time, Outcome::Skipped(t)),
+        Unit::Refused(why) => says(used, time, Outcome::Refused(why)),
+        Unit::Whole(w) => {
+            let d = octets::cut(rest, w.start, w.len);
+            take_whole(is_open, row, marks, time, used, w, d, out)
+        }
+        Unit::Part(_) => says(0, time, Outcome::End),
+        Unit::Description(w) => {
+            let d = octets::cut(rest, w.start, w.len);
+            take_description(marks, store, time, used, w, d)
+        }
+    }
+}
+
+fn answered(place: Place, answer: Answer) -> Turn
+    ensures { λ r. ⌜ r ≡ turn place answer ⌝ }
+{
+    Turn { place, answer }
 }
 
 // Takes the unit at the front of the rest. `place` is the desk's open sample at this time, or one that is not used.
@@ -290,21 +349,11 @@ pub fn receive(
     let used = r.used;
     let x = r.unit;
     match x {
-        Unit::End => said(place, used, time, Outcome::End),
-        Unit::Skipped(t) => said(place, used, time, Outcome::Skipped(t)),
-        Unit::Refused(why) => said(place, used, time, Outcome::Refused(why)),
-        Unit::Whole(w) => {
-            let d = octets::cut(rest, w.start, w.len);
-            take_whole(place, row, marks, time, used, w, d, out)
-        }
         Unit::Part(w) => {
             let d = octets::cut(rest, w.start, w.len);
             take_part(h, desk, place, row, marks, time, used, w, d, out)
         }
-        Unit::Description(w) => {
-            let d = octets::cut(rest, w.start, w.len);
-            take_description(place, marks, store, time, used, w, d)
-        }
+        _ => answered(place, pass(place.used, row, marks, store, time, rest, out)),
     }
 }
 

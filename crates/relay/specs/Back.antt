@@ -7,26 +7,27 @@ use mathlib.Core.Bool.{Bool, true, false, true≢false}
 use mathlib.Core.List.{List, [], _++_}
 use lib.ListN.{length, getD, set, take, drop, length-take, List·getD-eq-default, take-append-drop}
 use lib.Seq.{set-out, set-getD, getD-take, length-take-le, set-append-left}
-use Rattle.laws.specs.Rows.{_⇒_⁏_, _or_, each, no, ge, lt-of, ge-of, or-none}
+use Rattle.laws.specs.Rows.{_⇒_⁏_, _or_, _and_, _<?_, each, no, ge, lt-of, ge-of, and-of, or-none}
 use Rattle.laws.specs.Region.{splice, splice-part}
-use Rattle.laws.specs.Table.{seek, count}
+use Rattle.laws.specs.Table.{seek, count, seek-hit}
 use Rattle.laws.specs.Sums.{sum-same}
 use Rattle.laws.specs.Lists.{getD-listed}
 use Rattle.paper.specs.Limits.{placesEach, finishedMost, marksEach, storeSize, desksMost, ownPlaces, places}
 use Rattle.sample.specs.declared.Place.{Place}
 use Rattle.sample.specs.Place.{bare, closed}
+use Rattle.paper.specs.declared.Answer.{Answer}
 use Rattle.paper.specs.declared.Refusal.the-variants as R
 use Rattle.paper.specs.declared.Outcome.the-variants as O
 use Rattle.desk.specs.declared.Shares.{Shares}
 use Rattle.desk.specs.declared.GivenUp.the-variants as G
-use Rattle.desk.specs.Desk.{Own, After, Given, own, says, refuse, finish, givenUp}
+use Rattle.desk.specs.Desk.{Own, After, Given, own, says, turn, refuse, finish, givenUp}
 use Rattle.table.specs.Table.{mine, isAt, seen, loaded, stored}
 use Rattle.table.specs.Lengths.{length-stored}
 use Rattle.table.specs.declared.Seen.{Seen}
 use Rattle.table.specs.Turn.{opens-le}
 use Rattle.relay.specs.Relay.{Tables, tables, within, rowOf, marksOf, storeOf, commonUse, sharesOf, openAt, ownOf, standsAt, placed, putBack, stranger, lacking, Done, done, ordered, settled, receivedAt, Released, released, yielded, returned, lacksThree, givenUpAt}
 use Rattle.relay.specs.Steps.{proper, three-long, all-long}
-use Rattle.relay.specs.Plan.{reachOf, commonSeen, sharesSeen, Few, aimOf, planned, yielding}
+use Rattle.relay.specs.Plan.{Plan, reachOf, commonSeen, sharesSeen, Few, aimOf, plan, planned, yielding}
 
 -- ---- the desk's sample put back where it stood changes nothing
 placed-open : (d t : ℕ) (l : List Place) → placed d t (openAt d t l) l ≡ l
@@ -71,6 +72,23 @@ module _ (m desk time : ℕ) (l : List Place) where
 
       none : m ≤ see .at → loaded m (see .at) l ≡ closed
       none h = List·getD-eq-default (take m l) closed (omega (arith, length-take m l))
+
+  -- where one was seen it is used
+  open-seen : loaded m (see .at) l .used ≡ (see .at <? m and see .at <? length l)
+  unfolding bare
+  open-seen =
+      each Open (see .at <? m) (see .at <? length l) false (λ h. both (see .at <? length l) refl (lt-of _ _ h))
+      (λ h. none (omega (arith, ge-of _ _ h, length-take m l)))
+    where
+      Open : Bool → Type 0
+      Open b = loaded m (see .at) l .used ≡ b
+
+      none : length (take m l) ≤ see .at → Open false
+      none h = ap (λ (y : Place). y .used) (List·getD-eq-default (take m l) closed h)
+
+      both : (b : Bool) → (see .at <? length l) ≡ b → see .at < m → Open b
+      both true e h = and-of _ _ (seek-hit (isAt desk time) (take m l) closed (omega (arith, lt-of _ _ e, length-take m l))) .0
+      both false e h = none (omega (arith, ge-of _ _ e, length-take m l))
 
   -- where there are m places, the store puts the sample where it stands
   stored-is : (i : ℕ) (p : Place) → m ≤ length l → stored m i p l ≡ set (take m l) i p ++ drop m l
@@ -166,6 +184,18 @@ module _ (n : ℕ) (s : Tables) (desk time : ℕ) where
           ∙ ap (settled n s desk time)
           (ap (λ (h : Shares). ordered false h (its out) desk time rest) (shares-are (p .0) (p .1))
           ∙ ap (λ (y : Place). ordered false (sharesOf n desk (within n s)) (own y (rowOf desk (s .rows)) (marksOf desk (s .marks)) (storeOf desk (s .stores)) out) desk time rest) (sample-is (p .0)))
+
+  -- a call that leaves the sample as it stood leaves the places as they stood
+  pub passed-is : (rest out : List ℕ) (r : Answer) (rows marks stores out′ : List ℕ)
+      → plan (turn sample r) rows marks stores out′ ≡ planned n (length (s .places)) sight sample (s .rows) (s .marks) (s .stores) out desk time rest
+      → done (tables (s .places) rows marks stores) out′ r ≡ receivedAt n s desk time rest out
+  passed-is rest out r rows marks stores out′ e =
+      ap (λ (l : List Place). done (tables l rows marks stores) out′ r) (sym after-same)
+      ∙ ap (λ (x : Plan). done (tables (after (x .turn .place)) (x .rows) (x .marks) (x .stores)) (x .out) (x .turn .answer)) e
+      ∙ received-is rest out
+
+  pub sample-open : sample .used ≡ (sight .at <? reachOf n and sight .at <? length (s .places))
+  sample-open = open-seen (reachOf n) desk time (s .places)
 
   -- the same of give-up, which is lent no store
   abbrev let-go : Given → Released

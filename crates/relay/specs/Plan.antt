@@ -6,7 +6,7 @@ use lib.ListN.{length, getD}
 use Rattle.laws.specs.Rows.{_⇒_⁏_, _or_, _<?_, _=?_}
 use Rattle.laws.specs.Region.{splice}
 use Rattle.laws.specs.Sums.{sum}
-use Rattle.paper.specs.Limits.{finishedMost, desksMost, ownPlaces, marksEach, storeSize, places}
+use Rattle.paper.specs.Limits.{sampleMost, finishedMost, desksMost, ownPlaces, marksEach, storeSize, places}
 use Rattle.sample.specs.declared.Place.{Place}
 use Rattle.desk.specs.declared.Shares.{Shares}
 use Rattle.desk.specs.declared.Turn.{Turn}
@@ -14,6 +14,8 @@ use Rattle.desk.specs.declared.Freeing.{Freeing}
 use Rattle.desk.specs.Desk.{After, Given, own}
 use Rattle.table.specs.declared.Seen.{Seen}
 use Rattle.paper.specs.declared.Refusal.the-variants as R
+use Rattle.relay.specs.declared.Gate.{Gate}
+use Rattle.relay.specs.declared.Gate.the-variants.{Through, Shut}
 use Rattle.relay.specs.declared.Started.{Started}
 use Rattle.relay.specs.declared.Started.the-variants.{Ready, Refused}
 use Rattle.relay.specs.Relay.{rowOf, marksOf, storeOf, improper, stranger, lacks, lacksThree, ordered, yielded}
@@ -37,7 +39,13 @@ Few opens = (e : ℕ) → getD opens e 0 ≤ places desksMost
 unfoldable pub aimOf : Seen → (m : ℕ) → Place → ℕ
 aimOf e m p = e .at <? m ⇒ e .at ⁏ p .used ⇒ e .free ⁏ m
 
--- ---- receive
+-- ---- receive: 1 and 2
+unfoldable pub gateOf : (n len rows marks stores desk out : ℕ) → Gate
+gateOf n len rows marks stores desk out =
+    stranger n desk or lacks n len rows marks stores ⇒ Shut R.Desk
+    ⁏ out <? sampleMost ⇒ Shut R.Output
+    ⁏ Through
+
 pub record Plan : Type 0 where
   pub turn : Turn
   pub rows : List ℕ

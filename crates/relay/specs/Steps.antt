@@ -2,11 +2,11 @@
 use Prim.Native.Nat.{ℕ, _+_, _-_, _*_, _≤_, _<_}
 use native.Mathlib.Omega.{arith}
 use mathlib.Core.Path.{_≡_, refl, sym, ap, _∙_}
-use mathlib.Core.Bool.{Bool, true, false, not}
+use mathlib.Core.Bool.{Bool, true, false, not, true≢false}
 use mathlib.Core.List.{List, []}
 use lib.ListN.{length, getD, drop}
 use lib.Seq.{getD-take, getD-drop}
-use Rattle.laws.specs.Rows.{_or_, _<?_, yes, no, lt, ge, lt-of, ge-of, or-none}
+use Rattle.laws.specs.Rows.{_⇒_⁏_, _or_, _<?_, yes, no, lt-of, ge-of, or-none}
 use Rattle.laws.specs.Region.{part, splice, splice-part}
 use Rattle.paper.specs.Limits.{sampleMost}
 use Rattle.paper.specs.declared.Refusal.{Refusal}
@@ -20,18 +20,39 @@ use Rattle.desk.specs.declared.Freeing.{Freeing}
 use Rattle.desk.specs.declared.GivenUp.the-variants as G
 use Rattle.desk.specs.Desk.{Own, own, refuse, told, left, freed, newestOf, received, givenUp}
 use Rattle.table.specs.declared.Seen.{Seen}
+use Rattle.relay.specs.declared.Gate.{Gate}
+use Rattle.relay.specs.declared.Gate.the-variants.{Through, Shut}
 use Rattle.relay.specs.Relay.{rowOf, marksOf, storeOf, improper, stranger, short, lacks, lacksThree, ordered, yielded, lookedUp}
-use Rattle.relay.specs.Plan.{sharesSeen, plan, planOf, planned, yield, yieldOf, yielding}
+use Rattle.relay.specs.Plan.{sharesSeen, gateOf, plan, planOf, planned, yield, yieldOf, yielding}
 
-either : (a b : Bool) → a ≡ true → (a or b) ≡ true
+pub either : (a b : Bool) → a ≡ true → (a or b) ≡ true
 either a b h = sym (yes a b h refl)
 
-other : (a b c : Bool) → a ≡ false → b ≡ c → (a or b) ≡ c
+pub other : (a b c : Bool) → a ≡ false → b ≡ c → (a or b) ≡ c
 other a b c h k = sym (no a true h (sym k))
 
 -- a part s[a..a + k] of k elements
 widths : (a k : ℕ) → a + k - a ≡ k
 widths a k = omega arith
+
+-- ---- the gate
+whyOf : Gate → Refusal
+whyOf Through = R.Desk
+whyOf (Shut r) = r
+
+isThrough : Gate → Bool
+isThrough Through = true
+isThrough (Shut r) = false
+
+module _ (n len rows marks stores desk out : ℕ) where
+  clear : gateOf n len rows marks stores desk out ≡ Through → ((stranger n desk or lacks n len rows marks stores) ≡ false) × ((out <? sampleMost) ≡ false)
+  unfolding gateOf _⇒_⁏_ isThrough
+  clear = go (stranger n desk or lacks n len rows marks stores) (out <? sampleMost)
+    where
+      go : (one two : Bool) → (one ⇒ Shut R.Desk ⁏ two ⇒ Shut R.Output ⁏ Through) ≡ Through → (one ≡ false) × (two ≡ false)
+      go true two q = absurd (true≢false (sym (ap isThrough q)))
+      go false true q = absurd (true≢false (sym (ap isThrough q)))
+      go false false q = (refl, refl)
 
 -- ---- receive
 module _ (n len : ℕ) (e : Seen) (p : Place) (rows marks stores out : List ℕ) (desk time : ℕ) (rest : List ℕ) where
@@ -42,44 +63,40 @@ module _ (n len : ℕ) (e : Seen) (p : Place) (rows marks stores out : List ℕ)
   back : (r : Refusal) → plan (told p 0 time (O.Refused r)) rows marks stores out ≡ planOf desk rows marks stores (refuse its 0 time r)
   back r = rw (splice-part (16 * desk) 16 rows, splice-part (2 * desk) 2 marks, splice-part (16640 * desk) 16640 stores)
 
-  module _ (b : Bool) (f : b ≡ stranger n desk) where
-    pub step-stranger : b ≡ true → (t : Turn) → t ≡ told p 0 time (O.Refused R.Desk)
+  abbrev barred : Bool
+  barred = stranger n desk or lacks n len (length rows) (length marks) (length stores)
+
+  abbrev small : Bool
+  small = length out <? sampleMost
+
+  module _ (g : Gate) (f : g ≡ gateOf n len (length rows) (length marks) (length stores) desk (length out)) where
+    pub step-shut : (why : Refusal) → g ≡ Shut why → (t : Turn) → t ≡ told p 0 time (O.Refused why)
         → plan t rows marks stores out ≡ planned n len e p rows marks stores out desk time rest
+    unfolding planned ordered gateOf _⇒_⁏_ isThrough whyOf
+    step-shut why h t k =
+        ap (λ (u : Turn). plan u rows marks stores out) k ∙ back why ∙ ap (planOf desk rows marks stores) (go barred small (sym f ∙ h))
+      where
+        go : (one two : Bool) → (one ⇒ Shut R.Desk ⁏ two ⇒ Shut R.Output ⁏ Through) ≡ Shut why
+            → refuse its 0 time why
+            ≡ (one ⇒ refuse its 0 time R.Desk ⁏ two ⇒ refuse its 0 time R.Output ⁏ received (sharesSeen e n desk) its desk time rest)
+        go true two q = ap (λ (r : Refusal). refuse its 0 time r) (sym (ap whyOf q))
+        go false true q = ap (λ (r : Refusal). refuse its 0 time r) (sym (ap whyOf q))
+        go false false q = absurd (true≢false (ap isThrough q))
+
+    pub step-through : g ≡ Through → (h : Shares) → h ≡ sharesSeen e n desk → (t : Turn) (row′ marks′ store′ out′ : List ℕ)
+        → left t row′ marks′ store′ out′
+        ≡ received h (own p (part (16 * desk) (16 * desk + 16 - 16 * desk) rows) (part (2 * desk) (2 * desk + 2 - 2 * desk) marks)
+        (part (16640 * desk) (16640 * desk + 16640 - 16640 * desk) stores) out) desk time rest
+        → plan t (splice (16 * desk) (16 * desk + 16 - 16 * desk) row′ rows) (splice (2 * desk) (2 * desk + 2 - 2 * desk) marks′ marks)
+        (splice (16640 * desk) (16640 * desk + 16640 - 16640 * desk) store′ stores) out′
+        ≡ planned n len e p rows marks stores out desk time rest
     unfolding planned ordered
-    step-stranger h t k =
-        ap (λ (u : Turn). plan u rows marks stores out) k ∙ back R.Desk
-        ∙ ap (planOf desk rows marks stores) (yes _ _ (either _ _ (sym f ∙ h)) refl)
-
-    module _ (known : b ≡ false) (d : Bool) (g : d ≡ lacks n len (length rows) (length marks) (length stores)) where
-      pub step-lacking : d ≡ true → (t : Turn) → t ≡ told p 0 time (O.Refused R.Desk)
-          → plan t rows marks stores out ≡ planned n len e p rows marks stores out desk time rest
-      unfolding planned ordered
-      step-lacking h t k =
-          ap (λ (u : Turn). plan u rows marks stores out) k ∙ back R.Desk
-          ∙ ap (planOf desk rows marks stores) (yes _ _ (other _ _ _ (sym f ∙ known) (sym g ∙ h)) refl)
-
-      module _ (enough : d ≡ false) where
-        pub step-output : length out < sampleMost → (t : Turn) → t ≡ told p 0 time (O.Refused R.Output)
-            → plan t rows marks stores out ≡ planned n len e p rows marks stores out desk time rest
-        unfolding planned ordered
-        step-output h t k =
-            ap (λ (u : Turn). plan u rows marks stores out) k ∙ back R.Output
-            ∙ ap (planOf desk rows marks stores) (no _ _ (other _ _ _ (sym f ∙ known) (sym g ∙ enough)) (yes _ _ (lt _ _ h) refl))
-
-        pub step-through : sampleMost ≤ length out → (h : Shares) → h ≡ sharesSeen e n desk → (t : Turn) (row′ marks′ store′ out′ : List ℕ)
-            → left t row′ marks′ store′ out′
-            ≡ received h (own p (part (16 * desk) (16 * desk + 16 - 16 * desk) rows) (part (2 * desk) (2 * desk + 2 - 2 * desk) marks)
-            (part (16640 * desk) (16640 * desk + 16640 - 16640 * desk) stores) out) desk time rest
-            → plan t (splice (16 * desk) (16 * desk + 16 - 16 * desk) row′ rows) (splice (2 * desk) (2 * desk + 2 - 2 * desk) marks′ marks)
-            (splice (16640 * desk) (16640 * desk + 16640 - 16640 * desk) store′ stores) out′
-            ≡ planned n len e p rows marks stores out desk time rest
-        unfolding planned ordered
-        step-through l h k t row′ marks′ store′ out′ q =
-            let q′ : left t row′ marks′ store′ out′ ≡ received (sharesSeen e n desk) its desk time rest =
-            rw (widths (16 * desk) 16, widths (2 * desk) 2, widths (16640 * desk) 16640, k) at q in
-            rw (widths (16 * desk) 16, widths (2 * desk) 2, widths (16640 * desk) 16640)
-            (ap (planOf desk rows marks stores)
-            (q′ ∙ no _ _ (other _ _ _ (sym f ∙ known) (sym g ∙ enough)) (no _ _ (ge _ _ l) refl)))
+    step-through l h k t row′ marks′ store′ out′ q =
+        let c = clear n len (length rows) (length marks) (length stores) desk (length out) (sym f ∙ l) in
+        let q′ : left t row′ marks′ store′ out′ ≡ received (sharesSeen e n desk) its desk time rest =
+        rw (widths (16 * desk) 16, widths (2 * desk) 2, widths (16640 * desk) 16640, k) at q in
+        rw (widths (16 * desk) 16, widths (2 * desk) 2, widths (16640 * desk) 16640)
+        (ap (planOf desk rows marks stores) (q′ ∙ no _ _ (c .0) (no _ _ (c .1) refl)))
 
 -- ---- give-up
 module _ (n len : ℕ) (p : Place) (rows marks : List ℕ) (desk time : ℕ) where
@@ -137,6 +154,12 @@ three-long n places rows marks h =
 pub all-long : (n places rows marks stores : ℕ) → lacks n places rows marks stores ≡ false
     → ((4 * n ≤ places) × ((16 * n ≤ rows) × (2 * n ≤ marks))) × (16640 * n ≤ stores)
 all-long n places rows marks stores h = let a = or-none _ _ h in (three-long n places rows marks (a .0), long 16640 n stores (a .1))
+
+pub fits-through : (n len rows marks stores desk out : ℕ) (g : Gate) → g ≡ gateOf n len rows marks stores desk out → g ≡ Through
+    → ((n ≤ 8) × (desk < n)) × (((4 * n ≤ len) × ((16 * n ≤ rows) × (2 * n ≤ marks))) × (16640 * n ≤ stores))
+fits-through n len rows marks stores desk out g f h =
+    let a = or-none _ _ (clear n len rows marks stores desk out (sym f ∙ h) .0) in
+    (proper n desk (a .0), all-long n len rows marks stores (a .1))
 
 -- ---- lookup
 module _ (n : ℕ) (marks stores : List ℕ) (desk index : ℕ) (book : List ℕ) (b : Bool) (f : b ≡ stranger n desk) where

@@ -17,19 +17,28 @@ use paper::limits::STORE_SIZE;
 use sample::Place;
 use table::Seen;
 ghost use mathlib.Core.Path.{_≡_};
+ghost use mathlib.Core.Bool.{false};
 ghost use mathlib.Core.List.{List};
 ghost use Prim.Native.Nat.{ℕ, _*_, _<_, _≤_};
-ghost use lib.ListN.{replicate};
+ghost use lib.ListN.{length, replicate};
 ghost use lib.Seq.{sets};
 ghost use Rattle.paper.specs.Limits.{finishedMost, desksMost, storeSize};
 ghost use Rattle.relay.specs.Relay.{tables, improper, stranger, short, lacks, lacksThree, freshMarks, made, setUp, done, receivedAt, released, givenUpAt, lookedUp};
 ghost use Rattle.paper.specs.declared.Outcome.the-variants.{Refused};
-ghost use Rattle.desk.specs.Desk.{told};
-ghost use Rattle.relay.specs.Plan.{reachOf, commonSeen, sharesSeen, Few, aimOf, plan, planned, yield, yielding, fitting, startedOf};
+ghost use Rattle.laws.specs.Rows.{_and_, _<?_};
+ghost use Rattle.unit.specs.Layout.{readOf};
+ghost use Rattle.desk.specs.Desk.{says, told, turn, isPart};
+ghost use Rattle.relay.specs.Plan.{reachOf, commonSeen, sharesSeen, Few, aimOf, gateOf, plan, planned, yield, yielding, fitting, startedOf};
 
 // What set-up hands to each later call: how many desks there are.
 pub struct Relay {
     pub desks: usize,
+}
+
+// Whether a call goes through to the desk.
+enum Gate {
+    Through,
+    Shut(Refusal),
 }
 
 // What set-up answers.
@@ -143,17 +152,55 @@ fn aim(seen: Seen, m: usize, p: Place) -> usize
     m
 }
 
+// 1 and 2, asked of the numbers and of the lengths of all that is lent.
+fn gate_of(
+    n: usize,
+    len: usize,
+    rows: &[u32],
+    marks: &[u32],
+    stores: &[u8],
+    desk: usize,
+    out: &[u8],
+) -> Gate
+    ensures { λ r. ⌜ r ≡ gateOf n len (length (now (rows .entry))) (length (now (marks .entry))) (length (now (stores .entry))) desk (length (now (out .entry))) ⌝ }
+{
+    if is_stranger(n, desk) {
+        return Gate::Shut(Refusal::Desk);
+    }
+    if is_lacking(n, len, rows.len(), marks.len(), stores.len()) {
+        return Gate::Shut(Refusal::Desk);
+    }
+    if out.len() < SAMPLE_MOST {
+        return Gate::Shut(Refusal::Output);
+    }
+    Gate::Through
+}
+
+// Whether a sample was seen at the time that was looked for, among the first m of len places.
+fn has_open(seen: Seen, m: usize, len: usize) -> bool
+    ensures { λ r. ⌜ r ≡ (seen .at <? m and seen .at <? len) ⌝ }
+{
+    if seen.at < m {
+        return seen.at < len;
+    }
+    false
+}
+
+fn refusal(time: u32, why: Refusal) -> Answer
+    ensures { λ r. ⌜ r ≡ says 0 time (Refused why) ⌝ }
+{
+    Answer {
+        used: 0,
+        next: time,
+        outcome: Outcome::Refused(why),
+    }
+}
+
 fn refused(place: Place, time: u32, why: Refusal) -> Turn
     ensures { λ r. ⌜ r ≡ told place 0 time (Refused why) ⌝ }
 {
-    Turn {
-        place,
-        answer: Answer {
-            used: 0,
-            next: time,
-            outcome: Outcome::Refused(why),
-        },
-    }
+    let answer = refusal(time, why);
+    Turn { place, answer }
 }
 
 // Settles a call from what the desk has, once the table was looked at.
@@ -173,30 +220,63 @@ fn step(
     requires { ⌜ Few (seen .opens) ⌝ }
     ensures { λ r. ⌜ plan r (now (rows .exit)) (now (marks .exit)) (now (stores .exit)) (now (out .exit)) ≡ planned n len seen place (now (rows .entry)) (now (marks .entry)) (now (stores .entry)) (now (out .entry)) desk time (now (rest .entry)) ⌝ }
 {
-    if is_stranger(n, desk) {
-        return refused(place, time, Refusal::Desk);
+    let g = gate_of(n, len, rows, marks, stores, desk, out);
+    match g {
+        Gate::Shut(why) => refused(place, time, why),
+        Gate::Through => {
+            let h = shares_of(seen, n, desk);
+            let row = FINISHED_MOST * desk;
+            let mark = MARKS_EACH * desk;
+            let store = STORE_SIZE * desk;
+            desk::receive(
+                h,
+                desk,
+                place,
+                &mut rows[row..row + FINISHED_MOST],
+                &mut marks[mark..mark + MARKS_EACH],
+                &mut stores[store..store + STORE_SIZE],
+                time,
+                rest,
+                out,
+            )
+        }
     }
-    if is_lacking(n, len, rows.len(), marks.len(), stores.len()) {
-        return refused(place, time, Refusal::Desk);
+}
+
+// Settles a call with a unit that is no part.
+fn pass_step(
+    n: usize,
+    len: usize,
+    is_open: bool,
+    rows: &mut [u32],
+    marks: &mut [u32],
+    stores: &mut [u8],
+    desk: usize,
+    time: u32,
+    rest: &[u8],
+    out: &mut [u8],
+) -> Answer
+    requires { ⌜ isPart (readOf (now rest) .unit) ≡ false ⌝ }
+    ensures { λ r. ⌜ ((e : Seen) (p : Place) → p .used ≡ is_open → plan (turn p r) (now (rows .exit)) (now (marks .exit)) (now (stores .exit)) (now (out .exit)) ≡ planned n len e p (now (rows .entry)) (now (marks .entry)) (now (stores .entry)) (now (out .entry)) desk time (now (rest .entry))) ⌝ }
+{
+    let g = gate_of(n, len, rows, marks, stores, desk, out);
+    match g {
+        Gate::Shut(why) => refusal(time, why),
+        Gate::Through => {
+            let row = FINISHED_MOST * desk;
+            let mark = MARKS_EACH * desk;
+            let store = STORE_SIZE * desk;
+            desk::pass(
+                is_open,
+                &mut rows[row..row + FINISHED_MOST],
+                &mut marks[mark..mark + MARKS_EACH],
+                &mut stores[store..store + STORE_SIZE],
+                time,
+                rest,
+                out,
+            )
+        }
     }
-    if out.len() < SAMPLE_MOST {
-        return refused(place, time, Refusal::Output);
-    }
-    let h = shares_of(seen, n, desk);
-    let row = FINISHED_MOST * desk;
-    let mark = MARKS_EACH * desk;
-    let store = STORE_SIZE * desk;
-    desk::receive(
-        h,
-        desk,
-        place,
-        &mut rows[row..row + FINISHED_MOST],
-        &mut marks[mark..mark + MARKS_EACH],
-        &mut stores[store..store + STORE_SIZE],
-        time,
-        rest,
-        out,
-    )
 }
 
 // Settles a give-up from what the desk has.
@@ -345,8 +425,8 @@ pub fn set_up(
     answer_of(made)
 }
 
-// Takes the unit at the front of the rest, which a desk sent at the running time.
-pub fn receive(
+// Takes a unit over the desk's place, which is loaded, settled and stored again.
+fn join(
     relay: Relay,
     places: &mut [Place],
     rows: &mut [u32],
@@ -382,6 +462,50 @@ pub fn receive(
     let i = aim(seen, m, q);
     table::store(places, m, i, q);
     t.answer
+}
+
+// Takes a unit that is no part: the table is looked at and stays.
+fn pass(
+    relay: Relay,
+    places: &mut [Place],
+    rows: &mut [u32],
+    marks: &mut [u32],
+    stores: &mut [u8],
+    desk: usize,
+    time: u32,
+    rest: &[u8],
+    out: &mut [u8],
+) -> Answer
+    requires { ⌜ isPart (readOf (now rest) .unit) ≡ false ⌝ }
+    ensures { λ r. ⌜ done (tables (now (places .exit)) (now (rows .exit)) (now (marks .exit)) (now (stores .exit))) (now (out .exit)) r ≡ receivedAt (relay .desks) (tables (now (places .entry)) (now (rows .entry)) (now (marks .entry)) (now (stores .entry))) desk time (now (rest .entry)) (now (out .entry)) ⌝ }
+{
+    let n = relay.desks;
+    let len = table::len(places);
+    let m = reach(n);
+    let seen = table::scan(places, m, desk, time);
+    let is_open = has_open(seen, m, len);
+    pass_step(n, len, is_open, rows, marks, stores, desk, time, rest, out)
+}
+
+// Takes the unit at the front of the rest, which a desk sent at the running time.
+pub fn receive(
+    relay: Relay,
+    places: &mut [Place],
+    rows: &mut [u32],
+    marks: &mut [u32],
+    stores: &mut [u8],
+    desk: usize,
+    time: u32,
+    rest: &[u8],
+    out: &mut [u8],
+) -> Answer
+    ensures { λ r. ⌜ done (tables (now (places .exit)) (now (rows .exit)) (now (marks .exit)) (now (stores .exit))) (now (out .exit)) r ≡ receivedAt (relay .desks) (tables (now (places .entry)) (now (rows .entry)) (now (marks .entry)) (now (stores .entry))) desk time (now (rest .entry)) (now (out .entry)) ⌝ }
+{
+    if desk::is_part(rest) {
+        join(relay, places, rows, marks, stores, desk, time, rest, out)
+    } else {
+        pass(relay, places, rows, marks, stores, desk, time, rest, out)
+    }
 }
 
 // Gives a desk's open sample up: its place is freed and its time marked finished.

@@ -11,7 +11,7 @@ ghost use Rattle.laws.specs.Region.{part};
 ghost use Rattle.paper.specs.Limits.{sampleMost, partsMost};
 ghost use Rattle.joining.specs.Joining.{together, stringOf, ordered, sound};
 ghost use Rattle.sample.specs.Order.{follows};
-ghost use Rattle.sample.specs.Place.{has, piecesOf, closed, opened, alike, agrees, stands, repeats, oversize, telling, kept, missing};
+ghost use Rattle.sample.specs.Place.{bare, has, piecesOf, closed, opened, alike, agrees, stands, repeats, oversize, kept, missing};
 
 // An open sample. U, SIDX and SLEN are those of its first TYPE 2 part, once `told`; bit THIS - 1 of `mask`, and place THIS - 1 of
 // `kinds`, `starts` and `lens`, are part THIS's; the first `filled` of the bytes are in use.
@@ -40,16 +40,16 @@ struct Lengths {
     sample: usize,
 }
 
-// The closed record.
-pub fn closed() -> Place
-    ensures { λ r. ⌜ r ≡ closed ⌝ }
+// A place of which nothing is kept.
+fn bare(used: bool, desk: usize, time: u32, total: usize, sdur: usize) -> Place
+    ensures { λ r. ⌜ r ≡ bare used desk time total sdur ⌝ }
 {
     Place {
-        used: false,
-        desk: 0,
-        time: 0,
-        total: 0,
-        sdur: 0,
+        used,
+        desk,
+        time,
+        total,
+        sdur,
         told: false,
         u: 0,
         sidx: 0,
@@ -63,17 +63,18 @@ pub fn closed() -> Place
     }
 }
 
+// The closed record.
+pub fn closed() -> Place
+    ensures { λ r. ⌜ r ≡ closed ⌝ }
+{
+    bare(false, 0, 0, 0, 0)
+}
+
 // The sample that part x opens, nothing kept yet.
 pub fn opened(desk: usize, time: u32, x: Part) -> Place
     ensures { λ r. ⌜ r ≡ opened desk time x ⌝ }
 {
-    let mut p = closed();
-    p.used = true;
-    p.desk = desk;
-    p.time = time;
-    p.total = x.total;
-    p.sdur = x.sdur;
-    p
+    bare(true, desk, time, x.total, x.sdur)
 }
 
 // Whether part `this` is kept.
@@ -139,14 +140,12 @@ fn data_at(bytes: &[u8; SAMPLE_MOST], start: usize, len: usize) -> &[u8]
 fn stands(p: Place, this: usize, kind: usize, d: &[u8]) -> bool
     ensures { λ r. ⌜ r ≡ stands p this kind (now (d .entry)) ⌝ }
 {
-    let kinds = p.kinds;
-    let starts = p.starts;
-    let lens = p.lens;
-    let bytes = p.bytes;
     let k = octets::less(this, 1);
     if has(p, this) {
-        if at(&kinds, k) == kind {
-            return octets::same(data_at(&bytes, at(&starts, k), at(&lens, k)), d);
+        if at(&p.kinds, k) == kind {
+            let start = at(&p.starts, k);
+            let len = at(&p.lens, k);
+            return octets::same(data_at(&p.bytes, start, len), d);
         }
     }
     false
@@ -195,24 +194,6 @@ pub fn oversize(p: Place, x: Part, n: usize) -> bool
     below(p.told, p.slen, sum)
 }
 
-// A first TYPE 2 part tells U, SIDX and SLEN.
-fn tell(p: Place, x: Part) -> Place
-    ensures { λ r. ⌜ r ≡ telling p x ⌝ }
-{
-    if p.told {
-        return p;
-    }
-    if x.kind == 2 {
-        let mut q = p;
-        q.told = true;
-        q.u = x.u;
-        q.sidx = x.sidx;
-        q.slen = x.slen;
-        return q;
-    }
-    p
-}
-
 // a + b, and 1,024 where that is more.
 fn grown(a: usize, b: usize) -> usize
     ensures { λ r. ⌜ r ≡ min (a + b) sampleMost ⌝ }
@@ -226,8 +207,15 @@ fn grown(a: usize, b: usize) -> usize
     a + b
 }
 
-// The part, with the data d, is kept.
-pub fn keep(p: Place, x: Part, d: &[u8]) -> Place
+// The bytes d over those of a place, from `at` on.
+fn put_in(bytes: &mut [u8; SAMPLE_MOST], at: usize, d: &[u8])
+    ensures { λ _. ⌜ now (bytes .exit) ≡ sets (now (bytes .entry)) at (now (d .entry)) ⌝ }
+{
+    octets::put(bytes, at, d);
+}
+
+// The part, with the data d, is kept; the first of TYPE 2 tells U, SIDX and SLEN.
+pub fn keep(mut p: Place, x: Part, d: &[u8]) -> Place
     ensures { λ r. ⌜ r ≡ kept p x (now (d .entry)) ⌝ }
 {
     let this = x.this;
@@ -239,16 +227,22 @@ pub fn keep(p: Place, x: Part, d: &[u8]) -> Place
     }
     let k = this - 1;
     let at = p.filled;
-    let mut bytes = p.bytes;
-    octets::put(&mut bytes, at, d);
-    let mut q = p;
-    q.mask = p.mask | 1 << k;
-    q.filled = grown(at, d.len());
-    q.kinds[k] = x.kind;
-    q.starts[k] = at;
-    q.lens[k] = d.len();
-    q.bytes = bytes;
-    tell(q, x)
+    p.mask = p.mask | 1 << k;
+    p.filled = grown(at, d.len());
+    p.kinds[k] = x.kind;
+    p.starts[k] = at;
+    p.lens[k] = d.len();
+    put_in(&mut p.bytes, at, d);
+    if p.told {
+        return p;
+    }
+    if x.kind == 2 {
+        p.told = true;
+        p.u = x.u;
+        p.sidx = x.sidx;
+        p.slen = x.slen;
+    }
+    p
 }
 
 // How many parts are still missing.

@@ -6,6 +6,7 @@ ghost use mathlib.Core.List.{[]};
 ghost use Prim.Native.Nat.{_+_, _<_, _^_};
 ghost use lib.ListN.{length, take, getD};
 ghost use Rattle.laws.specs.Rows.{_and_, _<?_, _=?_};
+ghost use Rattle.laws.specs.Table.{bit};
 ghost use Rattle.table.specs.Table.{seen, loaded, stored, cleared};
 ghost use Rattle.table.specs.Turn.{onward, counted, turned};
 
@@ -56,18 +57,32 @@ fn onward(at: usize, i: usize, hit: bool) -> usize
     if at == i { i + 1 } else { at }
 }
 
-// The open samples of each desk, with one more place.
+// The count of desk e, with one more of desk own.
+fn bump(count: usize, own: usize, e: usize) -> usize
+    requires { ⌜ (own ≡ e → count + 1 < 2 ^ 64) ⌝ }
+    ensures { λ r. ⌜ r ≡ count + bit (own =? e) ⌝ }
+{
+    if own == e { count + 1 } else { count }
+}
+
+// The open samples of each desk, with one more place: no index is a variable, so that the counts stay in registers.
 fn counted(opens: [usize; DESKS_MOST], used: bool, own: usize) -> [usize; DESKS_MOST]
     requires { ⌜ getD opens own 0 + 1 < 2 ^ 64 ⌝ }
     ensures { λ r. ⌜ r ≡ counted opens used own ⌝ }
 {
-    let mut more = opens;
     if used {
-        if own < DESKS_MOST {
-            more[own] = opens[own] + 1;
-        }
+        return [
+            bump(opens[0], own, 0),
+            bump(opens[1], own, 1),
+            bump(opens[2], own, 2),
+            bump(opens[3], own, 3),
+            bump(opens[4], own, 4),
+            bump(opens[5], own, 5),
+            bump(opens[6], own, 6),
+            bump(opens[7], own, 7),
+        ];
     }
-    more
+    opens
 }
 
 // What is seen once place i, of which only these three fields count, is looked at too.

@@ -8,15 +8,15 @@ use Rattle.desk.proofs.take_description.Statement.{statement}
 use Rattle.desk.proofs.take_description.Tie as tie
 
 returns : tie.Need-returns
-returns c = λ row out.
+returns c = λ p row out.
     let a = c .before .before .before .before .before .before .before .before .before .before .before .before .before .before .before .args in
-    let s = own (a .place) row (now (a .marks)) (now (a .store)) out in
+    let s = own p row (now (a .marks)) (now (a .store)) out in
     description-taken s (a .time) (a .used) (a .w) (now (a .d))
     (c .before .before .before .before .before .before .before .before .before .word .result)
     (c .before .before .before .before .before .before .before .before .before .word .ensures)
     (omega (arith, c .before .before .before .before .before .before .before .before .before .word .ok)) _ _
     (c .before .before .before .before .before .before .before .before .note .ensures) _ (c .before .before .before .put-word .ensures) _
-    (c .said .ensures)
+    (c .says .ensures)
 
 pub take-description-spec : {M : Type 1} → statement M
 take-description-spec =

@@ -1,23 +1,42 @@
--- `sample::keep` meets its contract: the bytes are what `put` leaves, and the rest is stored as it stands. Assumes nothing.
+-- `sample::keep` meets its contract: the bytes are what `put_in` leaves, and the rest is stored as it stands. Assumes nothing.
+use Prim.Native.Nat.{ℕ, _-_, _*_, _%_, _^_, _≤_}
 use native.Mathlib.Omega.{arith}
 use native.Mathlib.Nat.{one-mul, mod-eq-of-lt}
-use mathlib.Core.Path.{_≡_, refl, _∙_}
-use Prim.Native.Nat.{_^_, _-_, _*_, _%_}
+use mathlib.Core.Path.{_≡_, refl}
 use lib.Pow.{pow-lt}
-use Rattle.laws.specs.Rows.{yes, no}
-use Rattle.sample.specs.Place.{laid, kept}
+use Rattle.laws.specs.Rows.{yes, no, eq, ne}
+use Rattle.paper.specs.Limits.{partsMost}
+use Rattle.sample.specs.Place.{toldOf, telling, laid, kept}
 use Rattle.sample.specs.Turns.{outside-none, outside-far, inside}
 use borrow.Author.Needs.{needs}
 use Rattle.sample.proofs.keep.Statement.{statement}
 use Rattle.sample.proofs.keep.Tie as tie
 
+bit : (THIS : ℕ) → THIS ≤ partsMost → 1 * 2 ^ (THIS - 1) % 4294967296 ≡ 2 ^ (THIS - 1)
+bit THIS h = rw one-mul (mod-eq-of-lt (pow-lt {j = 32} (omega arith)))
+
 returns-3 : tie.Need-returns-3
-unfolding kept laid
+unfolding kept laid telling
 returns-3 c =
-    let a = c .before .before .before .before .before .before .before .before .before .before .args in
-    let e = c .before .before .before .before .before .before .before in
-    let bit : 1 * 2 ^ (a .x .this - 1) % 4294967296 ≡ 2 ^ (a .x .this - 1) = rw one-mul (mod-eq-of-lt (pow-lt {j = 32} (omega (arith, e)))) in
-    no _ _ (inside _ (omega (arith, e)) (omega (arith, e))) (c .tell .ensures ∙ rw (bit, c .before .grown .ensures, c .before .before .before .before .put .ensures))
+    let e = c .before .before .before .before in
+    no _ _ (inside _ (omega (arith, e)) (e .if2 .left))
+    (yes _ _ (cc) (rw (bit _ (e .if2 .left), c .before .before .before .grown .ensures, c .before .put-in .ensures)))
+
+returns-4 : tie.Need-returns-4
+unfolding kept laid telling toldOf
+returns-4 c =
+    let g = c .before .before .before in
+    let e = g .before .before .before in
+    no _ _ (inside _ (omega (arith, e)) (e .if2 .left))
+    (no _ _ (cc) (yes _ _ (eq _ _ (cc)) (rw (bit _ (e .if2 .left), g .before .before .grown .ensures, g .put-in .ensures))))
+
+returns-5 : tie.Need-returns-5
+unfolding kept laid telling
+returns-5 c =
+    let g = c .before .before .before in
+    let e = g .before .before .before in
+    no _ _ (inside _ (omega (arith, e)) (e .if2 .left))
+    (no _ _ (cc) (no _ _ (ne _ _ (c .if4 .left)) (rw (bit _ (e .if2 .left), g .before .before .grown .ensures, g .put-in .ensures))))
 
 pub keep-spec : {M : Type 1} → statement M
 unfolding kept
@@ -28,8 +47,6 @@ keep-spec =
     (λ c. yes _ _ (outside-far _ (omega arith)) refl)
     (λ c. search needs)
     (λ c. search needs)
-    (λ c κs. search needs)
-    (λ c. search needs)
     (λ c. search needs)
     (λ c κs. search needs)
     (λ c. search needs)
@@ -39,4 +56,6 @@ keep-spec =
     (λ c. search needs)
     (λ c. search needs)
     (λ c κs. search needs)
-    returns-3)
+    returns-3
+    returns-4
+    returns-5)
