@@ -7,10 +7,10 @@ use std::hint::black_box;
 use std::time::Instant;
 
 /// Units of one measurement, about.
-const UNITS: usize = 60_000;
+const UNITS: usize = 10_000;
 
 /// Measurements of each; the quickest counts.
-const TRIES: usize = 7;
+const TRIES: usize = 41;
 
 /// Something that hears units; answers a number that tells outcomes apart.
 trait Hears {
