@@ -1,6 +1,6 @@
 -- `held::set_up` meets its contract: a walk of its MIR. All that it knows of its callees is that each meets its contract.
 -- Assumes nothing.
-use mathlib.Core.Path.{_≡_, refl, ap, subst}
+use mathlib.Core.Path.{_≡_, refl, ap}
 use Prim.Native.Nat.{ℕ, _<_, _^_}
 use mathlib.Core.List.{List, [], _∷_}
 use lib.ListN.{length}
@@ -17,17 +17,17 @@ use ghost.Atoms.{Atoms}
 use contract.Monad.{Fun, fact}
 use contract.Running.{givenOf, tables, tablesOf}
 use types.Kit.{Given, ‵, raw, some, later, _⊛_, ⋆, _$_, _∵_, !, qed, by, move, keep, drop, use0, use1, split, join, group, pick, rewrite, fsplit, fjoin, suffices, frame, await, done}
-use types.Part.{agg, whole, sub, look-in}
-use types.Run.{look, init, stop, hop, fld, from, load, addr, of-opd, and-then, no-more, assigns, land, returns, enter, alloc1, alloc0, params1, pass1, pass0, free0}
+use types.Part.{agg}
+use types.Run.{look, init, stop, from, load, addr, of-opd, and-then, no-more, assigns, land, returns, enter, alloc1, alloc0, params1, pass1, pass0, free0}
 use sound.WpLaws.{FmC, fmOf, WpFn-mono}
-use denote.RattleType.{RattleType, owns}
+use denote.RattleType.{owns}
 use denote.Laws.{Is, shows}
 use denote.Plain.{uint-makes, uint-vals, uint-tells}
 use denote.Builtin.{u8, u32, usize}
 use denote.Ref.{RefT}
 use denote.Slice.{sliceVal, MutSlice, Room, slice-vals, mut-slice-tells}
 use denote.Signature.{plain}
-use denote.Steps.{only, owned, peeks, heard, nothing}
+use denote.Steps.{owned, peeks, heard, nothing}
 use denote.Struct.Laws as LL
 use denote.Triple.Statement.{Contract, Triple}
 use denote.Triple.Call.{calls-at}
@@ -40,7 +40,7 @@ use denote.Exit.{yes}
 use denote.Memory.{lone}
 use lib.Dec.{lit<}
 use types.Run.{lit}
-use denote.Array.{Array, array-vals, array-tells, array-lawful, array-makes}
+use denote.Array.{array-vals, array-tells, array-lawful, array-makes}
 use denote.Enum.Laws as EL
 use Rattle.sample.specs.declared.Place.{Place}
 use Rattle.sample.proofs.Place as P
@@ -48,7 +48,6 @@ use Rattle.sample.proofs.Place.Laws as P′
 use Rattle.relay.specs.declared.Started.{Started}
 use Rattle.relay.proofs.Started as N
 use Rattle.relay.proofs.Started.Laws as N′
-use Rattle.held.specs.declared.Begun.{Begun}
 use Rattle.held.proofs.Begun as B
 use Rattle.held.proofs.Begun.Laws as B′
 use Rattle.held.specs.Held.{begun}
@@ -63,31 +62,14 @@ use Rattle.held.proofs.begun_of as begun-of′
 use Rattle.held.proofs.begun_of.Symbol as begun-of′-def
 use Rattle.held.proofs.begun_of.Symbol.{name as #begun-of′}
 use Rattle.held.proofs.begun_of.Met as begun-of′-thm
+use Rattle.walks.proofs.Steps.{calls-said}
+use Rattle.walks.proofs.Passed.{reborrows, landed}
+use Rattle.relay.proofs.Calls.{slice}
+use Rattle.held.proofs.Table.{Table, tabVal, room32}
 use Rattle.held.proofs.set_up.Key.{name as #held·set-up}
 use Rattle.held.proofs.set_up as me
 use Rattle.held.proofs.set_up.Statement as stated
 use Rattle.held.proofs.set_up.Code as code
-
--- a relation tells the machine value
-told-Begun : (p : Begun) (w : Val) → Is B.the-row p (w ∷ []) → Is B.the-row p (LL.val B.the-type B′.the-laws p ∷ [])
-told-Begun p w is = subst (Is B.the-row p) (LL.tells B.the-type B′.the-laws p _ is) is
-
--- a relation tells the machine value
-told-Place : (p : Place) (w : Val) → Is P.the-row p (w ∷ []) → Is P.the-row p (LL.val P.the-type P′.the-laws p ∷ [])
-told-Place p w is = subst (Is P.the-row p) (LL.tells P.the-type P′.the-laws p _ is) is
-
--- a relation tells the machine value
-told-Started : (p : Started) (w : Val) → Is N.the-row p (w ∷ []) → Is N.the-row p (EL.val N.the-type N′.the-laws p ∷ [])
-told-Started p w is = subst (Is N.the-row p) (EL.tells N.the-type N′.the-laws p _ is) is
-
-abbrev Table : RattleType
-Table = Array P.the-row 32
-
-abbrev tabVal : List Place → Val
-tabVal xs = only (array-vals (LL.vals P.the-type P′.the-laws) xs)
-
-room32 : Room P.the-row 32
-room32 = (lit< tt, lit< tt)
 
 abbrev stayed : Stays (me.ended .signature .params) (me.ended .kept)
 stayed = (stay-none (λ _. usize) yes, (stay-none (λ _. Table) yes, (stay-slice (0 ∷ []) tt (plain (λ _. u32)), (stay-slice (1 ∷ []) tt (plain (λ _. u32)), (stay-slice (2 ∷ []) tt (plain (λ _. u8)), tt)))))
@@ -100,15 +82,6 @@ abbrev BegunOf : {M : Type 1} (𝓤 : URA M) (H : Heap 𝓤) (A : Atoms 𝓤) (m
 BegunOf 𝓤 H A mem run = tripleOf 𝓤 H A begun-of′.signature (begun-of′.spec 𝓤 H A mem run)
 
 module _ {M : Type 1} (𝓤 : URA M) (H : Heap 𝓤) (A : Atoms 𝓤) (W : Given 𝓤 H A) (mem : Memory → SProp 𝓤) (run : Routine → Fun 𝓤) (κrows : Lft) (qrows : Share) (brows orows : ℕ) (γrows : GName) (rows : List ℕ) (κmarks : Lft) (qmarks : Share) (bmarks omarks : ℕ) (γmarks : GName) (marks : List ℕ) (κstores : Lft) (qstores : Share) (bstores ostores : ℕ) (γstores : GName) (stores : List ℕ) (n : ℕ) (places : List Place) (roomrows : Room u32 (length rows)) (roommarks : Room u32 (length marks)) (roomstores : Room u8 (length stores)) (fitsn : n < 2 ^ 64) (fitsplaces : Is Table places ((tabVal places) ∷ [])) where
-  abbrev srows : Val
-  srows = sliceVal (brows, orows) (length rows)
-
-  abbrev smarks : Val
-  smarks = sliceVal (bmarks, omarks) (length marks)
-
-  abbrev sstores : Val
-  sstores = sliceVal (bstores, ostores) (length stores)
-
   abbrev Arg : Type 0
   Arg = (ℕ × (List Place × (RefT (List ℕ) × (RefT (List ℕ) × (RefT (List ℕ) × Unit {0})))))
 
@@ -116,7 +89,7 @@ module _ {M : Type 1} (𝓤 : URA M) (H : Heap 𝓤) (A : Atoms 𝓤) (W : Given
   a = (n, (places, (Ref brows orows γrows rows, (Ref bmarks omarks γmarks marks, (Ref bstores ostores γstores stores, tt)))))
 
   abbrev vs : Vals me.signature (κrows, (κmarks, (κstores, tt)))
-  vs = ((vint w64 n) ∷ [], ((tabVal places) ∷ [], (srows ∷ [], (smarks ∷ [], (sstores ∷ [], tt)))))
+  vs = ((vint w64 n) ∷ [], ((tabVal places) ∷ [], (slice brows orows rows ∷ [], (slice bmarks omarks marks ∷ [], (slice bstores ostores stores ∷ [], tt)))))
 
   abbrev left : Made
   left = setUp n (lent-tables places rows marks stores)
@@ -126,11 +99,11 @@ module _ {M : Type 1} (𝓤 : URA M) (H : Heap 𝓤) (A : Atoms 𝓤) (W : Given
 
   -- call 1, `relay::set_up`: what its triple binds outside, and that the caller has what it asks
   abbrev to0 : (l6 : ℕ) (ν0a6 : ℕ) (δ0a6 : GName) (ν0rows : ℕ) (δ0rows : GName) (ν0marks : ℕ) (δ0marks : GName) (ν0stores : ℕ) (δ0stores : GName) → SetUp 𝓤 H A mem run .Ghost
-  to0 l6 ν0a6 δ0a6 ν0rows δ0rows ν0marks δ0marks ν0stores δ0stores = (((ν0a6 ∷ [], (ν0rows ∷ [], (ν0marks ∷ [], (ν0stores ∷ [], tt)))), (fullShare, (fullShare, (fullShare, (fullShare, tt)))), tt, (n, (Ref l6 0 δ0a6 places, (Ref brows orows δ0rows rows, (Ref bmarks omarks δ0marks marks, (Ref bstores ostores δ0stores stores, tt))))), ((vint w64 n) ∷ [], (sliceVal (l6, 0) 32 ∷ [], (srows ∷ [], (smarks ∷ [], (sstores ∷ [], tt)))))), tt)
+  to0 l6 ν0a6 δ0a6 ν0rows δ0rows ν0marks δ0marks ν0stores δ0stores = (((ν0a6 ∷ [], (ν0rows ∷ [], (ν0marks ∷ [], (ν0stores ∷ [], tt)))), (fullShare, (fullShare, (fullShare, (fullShare, tt)))), tt, (n, (Ref l6 0 δ0a6 places, (Ref brows orows δ0rows rows, (Ref bmarks omarks δ0marks marks, (Ref bstores ostores δ0stores stores, tt))))), ((vint w64 n) ∷ [], (sliceVal (l6, 0) 32 ∷ [], (slice brows orows rows ∷ [], (slice bmarks omarks marks ∷ [], (slice bstores ostores stores ∷ [], tt)))))), tt)
 
-  goes0 : (l6 : ℕ) (ν0a6 : ℕ) (δ0a6 : GName) (ν0rows : ℕ) (δ0rows : GName) (ν0marks : ℕ) (δ0marks : GName) (ν0stores : ℕ) (δ0stores : GName) (f0 : n < 2 ^ 64) → ent 𝓤 (⋆ 𝓤 H A (‵ (flft (ν0a6 ∷ []) fullShare) ∷ ‵ (flft (ν0rows ∷ []) fullShare) ∷ ‵ (flft (ν0marks ∷ []) fullShare) ∷ ‵ (flft (ν0stores ∷ []) fullShare) ∷ ‵ (MutSlice (named 0) (ν0a6 ∷ []) P.the-row .own (Ref l6 0 δ0a6 places) (sliceVal (l6, 0) 32 ∷ [])) ∷ ‵ (MutSlice (named 0) (ν0rows ∷ []) u32 .own (Ref brows orows δ0rows rows) (srows ∷ [])) ∷ ‵ (MutSlice (named 0) (ν0marks ∷ []) u32 .own (Ref bmarks omarks δ0marks marks) (smarks ∷ [])) ∷ ‵ (MutSlice (named 0) (ν0stores ∷ []) u8 .own (Ref bstores ostores δ0stores stores) (sstores ∷ [])) ∷ [])) (SetUp 𝓤 H A mem run .pre (to0 l6 ν0a6 δ0a6 ν0rows δ0rows ν0marks δ0marks ν0stores δ0stores))
+  goes0 : (l6 : ℕ) (ν0a6 : ℕ) (δ0a6 : GName) (ν0rows : ℕ) (δ0rows : GName) (ν0marks : ℕ) (δ0marks : GName) (ν0stores : ℕ) (δ0stores : GName) (f0 : n < 2 ^ 64) → ent 𝓤 (⋆ 𝓤 H A (‵ (flft (ν0a6 ∷ []) fullShare) ∷ ‵ (flft (ν0rows ∷ []) fullShare) ∷ ‵ (flft (ν0marks ∷ []) fullShare) ∷ ‵ (flft (ν0stores ∷ []) fullShare) ∷ ‵ (MutSlice (named 0) (ν0a6 ∷ []) P.the-row .own (Ref l6 0 δ0a6 places) (sliceVal (l6, 0) 32 ∷ [])) ∷ ‵ (MutSlice (named 0) (ν0rows ∷ []) u32 .own (Ref brows orows δ0rows rows) (slice brows orows rows ∷ [])) ∷ ‵ (MutSlice (named 0) (ν0marks ∷ []) u32 .own (Ref bmarks omarks δ0marks marks) (slice bmarks omarks marks ∷ [])) ∷ ‵ (MutSlice (named 0) (ν0stores ∷ []) u8 .own (Ref bstores ostores δ0stores stores) (slice bstores ostores stores ∷ [])) ∷ [])) (SetUp 𝓤 H A mem run .pre (to0 l6 ν0a6 δ0a6 ν0rows δ0rows ν0marks δ0marks ν0stores δ0stores))
   goes0 l6 ν0a6 δ0a6 ν0rows δ0rows ν0marks δ0marks ν0stores δ0stores f0 =
-      qed W (‵ (flft (ν0a6 ∷ []) fullShare) ∷ ‵ (flft (ν0rows ∷ []) fullShare) ∷ ‵ (flft (ν0marks ∷ []) fullShare) ∷ ‵ (flft (ν0stores ∷ []) fullShare) ∷ ‵ (MutSlice (named 0) (ν0a6 ∷ []) P.the-row .own (Ref l6 0 δ0a6 places) (sliceVal (l6, 0) 32 ∷ [])) ∷ ‵ (MutSlice (named 0) (ν0rows ∷ []) u32 .own (Ref brows orows δ0rows rows) (srows ∷ [])) ∷ ‵ (MutSlice (named 0) (ν0marks ∷ []) u32 .own (Ref bmarks omarks δ0marks marks) (smarks ∷ [])) ∷ ‵ (MutSlice (named 0) (ν0stores ∷ []) u8 .own (Ref bstores ostores δ0stores stores) (sstores ∷ [])) ∷ []) ∵ nothing ! $ move ! (4 ∷ 0 ∷ []) $ join ! $ move ! (3 ∷ 0 ∷ []) $ join ! $ move ! (2 ∷ 0 ∷ []) $ join ! $ move ! (1 ∷ 0 ∷ []) $ join ! $ nothing ! $ move ! (5 ∷ 0 ∷ []) $ fjoin ! $ move ! (4 ∷ 0 ∷ []) $ fjoin ! $ move ! (3 ∷ 0 ∷ []) $ fjoin ! $ move ! (2 ∷ 0 ∷ []) $ fjoin ! $ owned ! usize (Is usize) (uint-makes 𝓤 H A W w64) n _ (refl, f0) $ fjoin ! $ move ! (1 ∷ 0 ∷ []) $ join ! $ frame ! $ done !
+      qed W (‵ (flft (ν0a6 ∷ []) fullShare) ∷ ‵ (flft (ν0rows ∷ []) fullShare) ∷ ‵ (flft (ν0marks ∷ []) fullShare) ∷ ‵ (flft (ν0stores ∷ []) fullShare) ∷ ‵ (MutSlice (named 0) (ν0a6 ∷ []) P.the-row .own (Ref l6 0 δ0a6 places) (sliceVal (l6, 0) 32 ∷ [])) ∷ ‵ (MutSlice (named 0) (ν0rows ∷ []) u32 .own (Ref brows orows δ0rows rows) (slice brows orows rows ∷ [])) ∷ ‵ (MutSlice (named 0) (ν0marks ∷ []) u32 .own (Ref bmarks omarks δ0marks marks) (slice bmarks omarks marks ∷ [])) ∷ ‵ (MutSlice (named 0) (ν0stores ∷ []) u8 .own (Ref bstores ostores δ0stores stores) (slice bstores ostores stores ∷ [])) ∷ []) ∵ nothing ! $ move ! (4 ∷ 0 ∷ []) $ join ! $ move ! (3 ∷ 0 ∷ []) $ join ! $ move ! (2 ∷ 0 ∷ []) $ join ! $ move ! (1 ∷ 0 ∷ []) $ join ! $ nothing ! $ move ! (5 ∷ 0 ∷ []) $ fjoin ! $ move ! (4 ∷ 0 ∷ []) $ fjoin ! $ move ! (3 ∷ 0 ∷ []) $ fjoin ! $ move ! (2 ∷ 0 ∷ []) $ fjoin ! $ owned ! usize (Is usize) (uint-makes 𝓤 H A W w64) n _ (refl, f0) $ fjoin ! $ move ! (1 ∷ 0 ∷ []) $ join ! $ frame ! $ done !
 
   -- call 2, `held::begun_of`: what its triple binds outside, and that the caller has what it asks
   abbrev to1 : BegunOf 𝓤 H A mem run .Ghost
@@ -140,14 +113,14 @@ module _ {M : Type 1} (𝓤 : URA M) (H : Heap 𝓤) (A : Atoms 𝓤) (W : Given
   goes1 f0 f1 =
       qed W ([]) ∵ nothing ! $ nothing ! $ owned ! N.the-row (Is N.the-row) (EL.makes N.the-type N′.the-plain 𝓤 H A) (left .answer) _ f1 $ fjoin ! $ owned ! Table (Is Table) (array-makes 𝓤 H A W P.the-row (LL.makes P.the-type P′.the-plain 𝓤 H A) 32) (left .tables .places) _ f0 $ fjoin ! $ move ! (1 ∷ 0 ∷ []) $ join ! $ frame ! $ done !
 
-  exits : Is B.the-row (begun (left .tables .places) (left .answer)) ((LL.val B.the-type B′.the-laws (begun (left .tables .places) (left .answer))) ∷ []) → length (left .tables .rows) ≡ length rows → length (left .tables .marks) ≡ length marks → length (left .tables .stores) ≡ length stores → ent 𝓤 (⋆ 𝓤 H A (‵ (flft κrows qrows) ∷ ‵ (flft κmarks qmarks) ∷ ‵ (flft κstores qstores) ∷ ‵ (MutSlice (named 0) κrows u32 .own (Ref brows orows γrows (left .tables .rows)) (srows ∷ [])) ∷ ‵ (MutSlice (named 0) κmarks u32 .own (Ref bmarks omarks γmarks (left .tables .marks)) (smarks ∷ [])) ∷ ‵ (MutSlice (named 0) κstores u8 .own (Ref bstores ostores γstores (left .tables .stores)) (sstores ∷ [])) ∷ [])) (Post (LL.val B.the-type B′.the-laws (begun (left .tables .places) (left .answer))))
+  exits : Is B.the-row (begun (left .tables .places) (left .answer)) ((LL.val B.the-type B′.the-laws (begun (left .tables .places) (left .answer))) ∷ []) → length (left .tables .rows) ≡ length rows → length (left .tables .marks) ≡ length marks → length (left .tables .stores) ≡ length stores → ent 𝓤 (⋆ 𝓤 H A (‵ (flft κrows qrows) ∷ ‵ (flft κmarks qmarks) ∷ ‵ (flft κstores qstores) ∷ ‵ (MutSlice (named 0) κrows u32 .own (Ref brows orows γrows (left .tables .rows)) (slice brows orows rows ∷ [])) ∷ ‵ (MutSlice (named 0) κmarks u32 .own (Ref bmarks omarks γmarks (left .tables .marks)) (slice bmarks omarks marks ∷ [])) ∷ ‵ (MutSlice (named 0) κstores u8 .own (Ref bstores ostores γstores (left .tables .stores)) (slice bstores ostores stores ∷ [])) ∷ [])) (Post (LL.val B.the-type B′.the-laws (begun (left .tables .places) (left .answer))))
   exits g longrows longmarks longstores =
-      qed W (‵ (flft κrows qrows) ∷ ‵ (flft κmarks qmarks) ∷ ‵ (flft κstores qstores) ∷ ‵ (MutSlice (named 0) κrows u32 .own (Ref brows orows γrows (left .tables .rows)) (srows ∷ [])) ∷ ‵ (MutSlice (named 0) κmarks u32 .own (Ref bmarks omarks γmarks (left .tables .marks)) (smarks ∷ [])) ∷ ‵ (MutSlice (named 0) κstores u8 .own (Ref bstores ostores γstores (left .tables .stores)) (sstores ∷ [])) ∷ []) ∵ suffices ! _ (ends-at 𝓤 H A me.ended stayed (me.clauses 𝓤 H A mem run) W (((κrows, (κmarks, (κstores, tt))), (qrows, (qmarks, (qstores, tt))), tt, a, vs), tt) (LL.val B.the-type B′.the-laws (begun (left .tables .places) (left .answer))) (begun (left .tables .places) (left .answer)) (tt, (tt, (left .tables .rows, (left .tables .marks, (left .tables .stores, tt))))) (tt, (tt, (longrows, (longmarks, (longstores, tt)))))) $ says ! refl $ nothing ! $ move ! (3 ∷ 0 ∷ []) $ join ! $ move ! (2 ∷ 0 ∷ []) $ join ! $ move ! (1 ∷ 0 ∷ []) $ join ! $ frame ! $ nothing ! $ move ! (3 ∷ 0 ∷ []) $ fjoin ! $ move ! (2 ∷ 0 ∷ []) $ fjoin ! $ move ! (1 ∷ 0 ∷ []) $ fjoin ! $ owned ! Table (Is Table) (array-makes 𝓤 H A W P.the-row (LL.makes P.the-type P′.the-plain 𝓤 H A) 32) places _ fitsplaces $ fjoin ! $ owned ! usize (Is usize) (uint-makes 𝓤 H A W w64) n _ (refl, fitsn) $ fjoin ! $ frame ! $ owned ! B.the-row (Is B.the-row) (LL.makes B.the-type B′.the-plain 𝓤 H A) (begun (left .tables .places) (left .answer)) _ g $ done !
+      qed W (‵ (flft κrows qrows) ∷ ‵ (flft κmarks qmarks) ∷ ‵ (flft κstores qstores) ∷ ‵ (MutSlice (named 0) κrows u32 .own (Ref brows orows γrows (left .tables .rows)) (slice brows orows rows ∷ [])) ∷ ‵ (MutSlice (named 0) κmarks u32 .own (Ref bmarks omarks γmarks (left .tables .marks)) (slice bmarks omarks marks ∷ [])) ∷ ‵ (MutSlice (named 0) κstores u8 .own (Ref bstores ostores γstores (left .tables .stores)) (slice bstores ostores stores ∷ [])) ∷ []) ∵ suffices ! _ (ends-at 𝓤 H A me.ended stayed (me.clauses 𝓤 H A mem run) W (((κrows, (κmarks, (κstores, tt))), (qrows, (qmarks, (qstores, tt))), tt, a, vs), tt) (LL.val B.the-type B′.the-laws (begun (left .tables .places) (left .answer))) (begun (left .tables .places) (left .answer)) (tt, (tt, (left .tables .rows, (left .tables .marks, (left .tables .stores, tt))))) (tt, (tt, (longrows, (longmarks, (longstores, tt)))))) $ says ! refl $ nothing ! $ move ! (3 ∷ 0 ∷ []) $ join ! $ move ! (2 ∷ 0 ∷ []) $ join ! $ move ! (1 ∷ 0 ∷ []) $ join ! $ frame ! $ nothing ! $ move ! (3 ∷ 0 ∷ []) $ fjoin ! $ move ! (2 ∷ 0 ∷ []) $ fjoin ! $ move ! (1 ∷ 0 ∷ []) $ fjoin ! $ owned ! Table (Is Table) (array-makes 𝓤 H A W P.the-row (LL.makes P.the-type P′.the-plain 𝓤 H A) 32) places _ fitsplaces $ fjoin ! $ owned ! usize (Is usize) (uint-makes 𝓤 H A W w64) n _ (refl, fitsn) $ fjoin ! $ frame ! $ owned ! B.the-row (Is B.the-row) (LL.makes B.the-type B′.the-plain 𝓤 H A) (begun (left .tables .places) (left .answer)) _ g $ done !
 
   module _ (C : Calls 𝓤 H) (Λ : Loops 𝓤 H) (fm : FmC 𝓤 H (W .laws) C) (known-set-up′ : Triple 𝓤 (C #set-up′) (SetUp 𝓤 H A mem run)) (known-begun-of′ : Triple 𝓤 (C #begun-of′) (BegunOf 𝓤 H A mem run)) where
-    walk : ent 𝓤 (onEntry 𝓤 H A me.signature (κrows, (κmarks, (κstores, tt))) (qrows, (qmarks, (qstores, tt))) a vs) (WpFn 𝓤 H C Λ code.function ((vint w64 n) ∷ (tabVal places) ∷ srows ∷ smarks ∷ sstores ∷ []) Post)
+    walk : ent 𝓤 (onEntry 𝓤 H A me.signature (κrows, (κmarks, (κstores, tt))) (qrows, (qmarks, (qstores, tt))) a vs) (WpFn 𝓤 H C Λ code.function ((vint w64 n) ∷ (tabVal places) ∷ slice brows orows rows ∷ slice bmarks omarks marks ∷ slice bstores ostores stores ∷ []) Post)
     walk =
-        qed W ((‵ (flft κrows qrows) ⊛ (‵ (flft κmarks qmarks) ⊛ (‵ (flft κstores qstores) ⊛ ‵ ftrue))) ∷ ‵ (owns (usize ∷ Table ∷ MutSlice (named 0) κrows u32 ∷ MutSlice (named 1) κmarks u32 ∷ MutSlice (named 2) κstores u8 ∷ []) a vs) ∷ []) ∵ enter ! C Λ code.function ((vint w64 n) ∷ (tabVal places) ∷ srows ∷ smarks ∷ sstores ∷ []) _ $
+        qed W ((‵ (flft κrows qrows) ⊛ (‵ (flft κmarks qmarks) ⊛ (‵ (flft κstores qstores) ⊛ ‵ ftrue))) ∷ ‵ (owns (usize ∷ Table ∷ MutSlice (named 0) κrows u32 ∷ MutSlice (named 1) κmarks u32 ∷ MutSlice (named 2) κstores u8 ∷ []) a vs) ∷ []) ∵ enter ! C Λ code.function ((vint w64 n) ∷ (tabVal places) ∷ slice brows orows rows ∷ slice bmarks omarks marks ∷ slice bstores ostores stores ∷ []) _ $
         alloc1 ! (λ l0. alloc1 ! (λ l1. alloc1 ! (λ l2. alloc1 ! (λ l3. alloc1 ! (λ l4. alloc1 ! (λ l5. alloc1 ! (λ l6. alloc1 ! (λ l7. alloc1 ! (λ l8. alloc1 ! (λ l9. alloc1 ! (λ l10. alloc1 ! (λ l11. alloc1 ! (λ l12. alloc1 ! (λ l13. alloc1 ! (λ l14. alloc1 ! (λ l15. alloc1 ! (λ l16. alloc0 ! $ params1 ! $
         pass1 ! (init ! 30 refl (tt, record { fits = fitsn })) $ pass1 ! (init ! 28 refl ((array-lawful 𝓤 H A W P.the-row (LL.lawful P.the-type P′.the-laws 𝓤 H A W) 32) .typed places _ fitsplaces .0)) $ pass1 ! (init ! 26 refl (tt, (tt, (record { fits = roomrows .0 }, tt)))) $ pass1 ! (init ! 24 refl (tt, (tt, (record { fits = roommarks .0 }, tt)))) $ pass1 ! (init ! 22 refl (tt, (tt, (record { fits = roomstores .0 }, tt)))) $ pass0 ! $
         -- what stands between statements: what each slice owns, its token, and the locals
@@ -155,47 +128,41 @@ module _ {M : Type 1} (𝓤 : URA M) (H : Heap 𝓤) (A : Atoms 𝓤) (W : Given
         assigns ! (of-opd ! (load ! (from ! (stop !)) (look ! 34 refl))) (from ! (stop !)) (init ! 26 refl ((array-lawful 𝓤 H A W P.the-row (LL.lawful P.the-type P′.the-laws 𝓤 H A W) 32) .typed places _ fitsplaces .0)) $
         assigns ! (addr ! (from ! (stop !))) (from ! (stop !)) (init ! 22 refl (tt, tt)) $
         assigns ! (agg ! (and-then ! (load ! (from ! (stop !)) (look ! 22 refl)) (and-then ! (lit ! tt) (no-more !)))) (from ! (stop !)) (init ! 20 refl (tt, (tt, (record { fits = lit< tt }, tt)))) $
-        assigns ! (addr ! (from ! (fld ! refl (hop ! (look-in ! 32 (sub ! 0 refl (whole !))) (stop !))))) (from ! (stop !)) (init ! 18 refl (tt, tt)) $
-        assigns ! (agg ! (and-then ! (load ! (from ! (stop !)) (look ! 18 refl)) (and-then ! (load ! (from ! (fld ! refl (stop !))) (look-in ! 32 (sub ! 1 refl (whole !)))) (no-more !)))) (from ! (stop !)) (init ! 16 refl (tt, (tt, (record { fits = roomrows .0 }, tt)))) $
-        assigns ! (addr ! (from ! (fld ! refl (hop ! (look-in ! 30 (sub ! 0 refl (whole !))) (stop !))))) (from ! (stop !)) (init ! 14 refl (tt, tt)) $
-        assigns ! (agg ! (and-then ! (load ! (from ! (stop !)) (look ! 14 refl)) (and-then ! (load ! (from ! (fld ! refl (stop !))) (look-in ! 30 (sub ! 1 refl (whole !)))) (no-more !)))) (from ! (stop !)) (init ! 12 refl (tt, (tt, (record { fits = roommarks .0 }, tt)))) $
-        assigns ! (addr ! (from ! (fld ! refl (hop ! (look-in ! 28 (sub ! 0 refl (whole !))) (stop !))))) (from ! (stop !)) (init ! 10 refl (tt, tt)) $
-        assigns ! (agg ! (and-then ! (load ! (from ! (stop !)) (look ! 10 refl)) (and-then ! (load ! (from ! (fld ! refl (stop !))) (look-in ! 28 (sub ! 1 refl (whole !)))) (no-more !)))) (from ! (stop !)) (init ! 8 refl (tt, (tt, (record { fits = roomstores .0 }, tt)))) $
+        reborrows ! 32 18 16 (roomrows .0) refl refl tt refl refl refl tt refl $
+        reborrows ! 30 14 12 (roommarks .0) refl refl tt refl refl refl tt refl $
+        reborrows ! 28 10 8 (roomstores .0) refl refl tt refl refl refl tt refl $
         -- `relay::set_up`
         owned ! Table (Is Table) (array-makes 𝓤 H A W P.the-row (LL.makes P.the-type P′.the-plain 𝓤 H A) 32) places _ fitsplaces $
         move ! (27 ∷ 0 ∷ []) $ lent-array ! tt P.the-row tt 32 l6 places (fitsplaces .1 .0 .1) room32 _ (λ ν0a6 δ0a6.
-        move ! (3 ∷ 4 ∷ []) $ lent-mut ! tt u32 κrows qrows γrows brows orows rows (srows ∷ []) (λ ν0rows δ0rows.
-        move ! (6 ∷ 7 ∷ []) $ lent-mut ! tt u32 κmarks qmarks γmarks bmarks omarks marks (smarks ∷ []) (λ ν0marks δ0marks.
-        move ! (9 ∷ 10 ∷ []) $ lent-mut ! tt u8 κstores qstores γstores bstores ostores stores (sstores ∷ []) (λ ν0stores δ0stores.
+        move ! (3 ∷ 4 ∷ []) $ lent-mut ! tt u32 κrows qrows γrows brows orows rows (slice brows orows rows ∷ []) (λ ν0rows δ0rows.
+        move ! (6 ∷ 7 ∷ []) $ lent-mut ! tt u32 κmarks qmarks γmarks bmarks omarks marks (slice bmarks omarks marks ∷ []) (λ ν0marks δ0marks.
+        move ! (9 ∷ 10 ∷ []) $ lent-mut ! tt u8 κstores qstores γstores bstores ostores stores (slice bstores ostores stores ∷ []) (λ ν0stores δ0stores.
         move ! (9 ∷ 6 ∷ 3 ∷ 0 ∷ 10 ∷ 7 ∷ 4 ∷ 1 ∷ []) $ group ! 8 $ use1 W (raw (SetUp 𝓤 H A mem run .pre (to0 l6 ν0a6 δ0a6 ν0rows δ0rows ν0marks δ0marks ν0stores δ0stores))) (goes0 l6 ν0a6 δ0a6 ν0rows δ0rows ν0marks δ0marks ν0stores δ0stores fitsn) $
         calls-at ! fm (SetUp 𝓤 H A mem run) known-set-up′ (to0 l6 ν0a6 δ0a6 ν0rows δ0rows ν0marks δ0marks ν0stores δ0stores) (and-then ! (load ! (from ! (stop !)) (look ! 34 refl)) (and-then ! (load ! (from ! (stop !)) (look ! 19 refl)) (and-then ! (load ! (from ! (stop !)) (look ! 15 refl)) (and-then ! (load ! (from ! (stop !)) (look ! 11 refl)) (and-then ! (load ! (from ! (stop !)) (look ! 7 refl)) (no-more !)))))) (λ w0.
         use1 W (later (some (λ (r : Started). ((‵ (flft (ν0a6 ∷ []) fullShare) ⊛ (‵ (flft (ν0rows ∷ []) fullShare) ⊛ (‵ (flft (ν0marks ∷ []) fullShare) ⊛ (‵ (flft (ν0stores ∷ []) fullShare) ⊛ ‵ ftrue)))) ⊛ ‵ (N.the-row .own r (w0 ∷ []))) ⊛ raw (ensured 𝓤 H A set-up′.ended (set-up′.clauses 𝓤 H A mem run) (ν0a6 ∷ [], (ν0rows ∷ [], (ν0marks ∷ [], (ν0stores ∷ [], tt)))) (n, (Ref l6 0 δ0a6 places, (Ref brows orows δ0rows rows, (Ref bmarks omarks δ0marks marks, (Ref bstores ostores δ0stores stores, tt))))) tt r)))) (id⊢ 𝓤 _) $ await ! tt $ pick ! (λ r0.
         split ! $ move ! (1 ∷ []) $ use1 W (some (λ (ls0 : (Unit {0} × (List Place × (List ℕ × (List ℕ × (List ℕ × Unit {0})))))). ‵ (lasts set-up′.ended (ν0a6 ∷ [], (ν0rows ∷ [], (ν0marks ∷ [], (ν0stores ∷ [], tt)))) (n, (Ref l6 0 δ0a6 places, (Ref brows orows δ0rows rows, (Ref bmarks omarks δ0marks marks, (Ref bstores ostores δ0stores stores, tt))))) ls0) ⊛ raw (fact 𝓤 (made (lent-tables (ls0 .1 .0) (ls0 .1 .1 .0) (ls0 .1 .1 .1 .0) (ls0 .1 .1 .1 .1 .0)) r0 ≡ left)))) (id⊢ 𝓤 _) $ pick ! (λ ls0.
-        split ! $ move ! (1 ∷ []) $ heard ! (made (lent-tables (ls0 .1 .0) (ls0 .1 .1 .0) (ls0 .1 .1 .1 .0) (ls0 .1 .1 .1 .1 .0)) r0 ≡ left) (λ e0. fsplit ! $ drop ! $ fsplit ! $ move ! (1 ∷ []) $ fsplit ! $ move ! (1 ∷ []) $ fsplit ! $ move ! (1 ∷ []) $ fsplit ! $ move ! (1 ∷ []) $ drop ! $ move ! (4 ∷ []) $ split ! $ move ! (1 ∷ []) $ rewrite ! 0 (λ (h : Started). ‵ (N.the-row .own h (w0 ∷ []))) (ap (λ (z : Made). z .answer) e0) refl $ peeks ! N.the-row (Is N.the-row) (shows 𝓤 H A N.the-row) (left .answer) (w0 ∷ []) (λ is0.
-        land ! (from ! (stop !)) (init ! 28 refl (EL.lawful N.the-type N′.the-laws 𝓤 H A W tt .typed (left .answer) _ is0 .0)) $ rewrite ! 28 (λ (u : Val). ‵ (fat fullShare N′.mir l7 0 u)) (ap only (EL.tells N.the-type N′.the-laws (left .answer) _ is0)) refl $ drop ! $
+        split ! $ move ! (1 ∷ []) $ heard ! (made (lent-tables (ls0 .1 .0) (ls0 .1 .1 .0) (ls0 .1 .1 .1 .0) (ls0 .1 .1 .1 .1 .0)) r0 ≡ left) (λ e0. fsplit ! $ drop ! $ fsplit ! $ move ! (1 ∷ []) $ fsplit ! $ move ! (1 ∷ []) $ fsplit ! $ move ! (1 ∷ []) $ fsplit ! $ move ! (1 ∷ []) $ drop ! $ move ! (4 ∷ []) $ split ! $ move ! (1 ∷ []) $ landed ! N.the-row (EL.val N.the-type N′.the-laws) (EL.tells N.the-type N′.the-laws) (left .answer) r0 (ap (λ (z : Made). z .answer) e0) w0 (λ is0.
+        land ! (from ! (stop !)) (init ! 27 refl (EL.lawful N.the-type N′.the-laws 𝓤 H A W tt .typed (left .answer) _ is0 .0)) $
         split ! $ move ! (1 ∷ []) $ split ! $ move ! (1 ∷ []) $ split ! $ move ! (1 ∷ []) $ split ! $ move ! (1 ∷ []) $ drop ! $
         move ! (3 ∷ 7 ∷ 11 ∷ []) $ back-array ! tt P.the-row (LL.vals P.the-type P′.the-laws) (LL.tells P.the-type P′.the-laws) 32 l6 places (ls0 .1 .0) (fitsplaces .1 .0 .1) ν0a6 δ0a6 _ refl $
         rewrite ! 0 (λ (l : List Place). ‵ (fat fullShare (tyArray (lone (P.the-row .mir)) 32) l6 0 (tabVal l))) (ap (λ (z : Made). z .tables .places) e0) refl $
         rewrite ! 1 (λ (l : List Place). ‵ (Table .own l (tabVal l ∷ []))) (ap (λ (z : Made). z .tables .places) e0) refl $
         move ! (1 ∷ []) $ peeks ! Table (Is Table) (shows 𝓤 H A Table) (left .tables .places) (tabVal (left .tables .places) ∷ []) (λ isA0. drop ! $
-        move ! (3 ∷ 6 ∷ 9 ∷ []) $ back-mut ! tt u32 κrows ν0rows qrows γrows δ0rows brows orows rows (ls0 .1 .1 .0) (left .tables .rows) (srows ∷ []) (ap (λ (z : Made). z .tables .rows) e0) $
-        move ! (4 ∷ 6 ∷ 8 ∷ []) $ back-mut ! tt u32 κmarks ν0marks qmarks γmarks δ0marks bmarks omarks marks (ls0 .1 .1 .1 .0) (left .tables .marks) (smarks ∷ []) (ap (λ (z : Made). z .tables .marks) e0) $
-        move ! (5 ∷ 6 ∷ 7 ∷ []) $ back-mut ! tt u8 κstores ν0stores qstores γstores δ0stores bstores ostores stores (ls0 .1 .1 .1 .1 .0) (left .tables .stores) (sstores ∷ []) (ap (λ (z : Made). z .tables .stores) e0) $
+        move ! (3 ∷ 6 ∷ 9 ∷ []) $ back-mut ! tt u32 κrows ν0rows qrows γrows δ0rows brows orows rows (ls0 .1 .1 .0) (left .tables .rows) (slice brows orows rows ∷ []) (ap (λ (z : Made). z .tables .rows) e0) $
+        move ! (4 ∷ 6 ∷ 8 ∷ []) $ back-mut ! tt u32 κmarks ν0marks qmarks γmarks δ0marks bmarks omarks marks (ls0 .1 .1 .1 .0) (left .tables .marks) (slice bmarks omarks marks ∷ []) (ap (λ (z : Made). z .tables .marks) e0) $
+        move ! (5 ∷ 6 ∷ 7 ∷ []) $ back-mut ! tt u8 κstores ν0stores qstores γstores δ0stores bstores ostores stores (ls0 .1 .1 .1 .1 .0) (left .tables .stores) (slice bstores ostores stores ∷ []) (ap (λ (z : Made). z .tables .stores) e0) $
         assigns ! (of-opd ! (load ! (from ! (stop !)) (look ! 6 refl))) (from ! (stop !)) (init ! 7 refl ((array-lawful 𝓤 H A W P.the-row (LL.lawful P.the-type P′.the-laws 𝓤 H A W) 32) .typed (left .tables .places) _ isA0 .0)) $
         -- `held::begun_of`
-        use0 W (raw (BegunOf 𝓤 H A mem run .pre (to1))) (goes1 isA0 (told-Started (left .answer) w0 is0)) $
-        calls-at ! fm (BegunOf 𝓤 H A mem run) known-begun-of′ (to1) (and-then ! (load ! (from ! (stop !)) (look ! 8 refl)) (and-then ! (load ! (from ! (stop !)) (look ! 26 refl)) (no-more !))) (λ w1.
-        use1 W (later (some (λ (r : Begun). (‵ ftrue ⊛ ‵ (B.the-row .own r (w1 ∷ []))) ⊛ raw (ensured 𝓤 H A begun-of′.ended (begun-of′.clauses 𝓤 H A mem run) tt ((left .tables .places), ((left .answer), tt)) tt r)))) (id⊢ 𝓤 _) $ await ! tt $ pick ! (λ r1.
-        split ! $ move ! (1 ∷ []) $ use1 W (some (λ (ls1 : (Unit {0} × (Unit {0} × Unit {0}))). ‵ (lasts begun-of′.ended tt ((left .tables .places), ((left .answer), tt)) ls1) ⊛ raw (fact 𝓤 (r1 ≡ begun (left .tables .places) (left .answer))))) (id⊢ 𝓤 _) $ pick ! (λ ls1.
-        split ! $ move ! (1 ∷ []) $ heard ! (r1 ≡ begun (left .tables .places) (left .answer)) (λ e1. drop ! $ split ! $ move ! (1 ∷ []) $ rewrite ! 0 (λ (h : Begun). ‵ (B.the-row .own h (w1 ∷ []))) (e1) refl $ peeks ! B.the-row (Is B.the-row) (shows 𝓤 H A B.the-row) (begun (left .tables .places) (left .answer)) (w1 ∷ []) (λ is1.
-        land ! (from ! (stop !)) (init ! 40 refl (LL.lawful B.the-type B′.the-laws 𝓤 H A W .typed (begun (left .tables .places) (left .answer)) _ is1 .0)) $ rewrite ! 40 (λ (u : Val). ‵ (fat fullShare B′.mir l0 0 u)) (ap only (LL.tells B.the-type B′.the-laws (begun (left .tables .places) (left .answer)) _ is1)) refl $ drop ! $
-        drop ! $
+        use0 W (raw (BegunOf 𝓤 H A mem run .pre (to1))) (goes1 isA0 is0) $
+        calls-said ! fm begun-of′.ended (begun-of′.clauses 𝓤 H A mem run) known-begun-of′ (to1) (λ r. r ≡ begun (left .tables .places) (left .answer)) (λ r e. id⊢ 𝓤 _) (and-then ! (load ! (from ! (stop !)) (look ! 8 refl)) (and-then ! (load ! (from ! (stop !)) (look ! 26 refl)) (no-more !))) (λ w1 r1 e1.
+        landed ! B.the-row (LL.val B.the-type B′.the-laws) (LL.tells B.the-type B′.the-laws) (begun (left .tables .places) (left .answer)) r1 e1 w1 (λ is1. drop ! $
+        land ! (from ! (stop !)) (init ! 38 refl (LL.lawful B.the-type B′.the-laws 𝓤 H A W .typed (begun (left .tables .places) (left .answer)) _ is1 .0)) $
         move ! (6 ∷ 27 ∷ []) $
         returns ! (look ! 38 refl) $ free-at ! 38 refl refl $ free-at ! 36 refl refl $ free-at ! 34 refl refl $ free-at ! 32 refl refl $ free-at ! 30 refl refl $ free-at ! 28 refl refl $ free-at ! 0 refl refl $ free-at ! 24 refl refl $ free-at ! 22 refl refl $ free-at ! 20 refl refl $ free-at ! 18 refl refl $ free-at ! 16 refl refl $ free-at ! 14 refl refl $ free-at ! 12 refl refl $ free-at ! 10 refl refl $ free-at ! 8 refl refl $ free-at ! 6 refl refl $ free0 ! $
-        move ! (4 ∷ []) $ peeks ! (MutSlice (named 0) κrows u32) (Is (MutSlice (named 0) κrows u32)) (shows 𝓤 H A (MutSlice (named 0) κrows u32)) (Ref brows orows γrows (left .tables .rows)) (srows ∷ []) (λ atrows.
-        move ! (3 ∷ []) $ peeks ! (MutSlice (named 0) κmarks u32) (Is (MutSlice (named 0) κmarks u32)) (shows 𝓤 H A (MutSlice (named 0) κmarks u32)) (Ref bmarks omarks γmarks (left .tables .marks)) (smarks ∷ []) (λ atmarks.
-        move ! (2 ∷ []) $ peeks ! (MutSlice (named 0) κstores u8) (Is (MutSlice (named 0) κstores u8)) (shows 𝓤 H A (MutSlice (named 0) κstores u8)) (Ref bstores ostores γstores (left .tables .stores)) (sstores ∷ []) (λ atstores.
-        keep ! (5 ∷ 4 ∷ 3 ∷ 2 ∷ 1 ∷ 0 ∷ []) $ by ! (exits (told-Begun (begun (left .tables .places) (left .answer)) w1 is1) (kept-long u32 κrows brows orows γrows rows (left .tables .rows) roomrows atrows) (kept-long u32 κmarks bmarks omarks γmarks marks (left .tables .marks) roommarks atmarks) (kept-long u8 κstores bstores ostores γstores stores (left .tables .stores) roomstores atstores)))))))))))))))))))))))))))))))))))))
+        move ! (4 ∷ []) $ peeks ! (MutSlice (named 0) κrows u32) (Is (MutSlice (named 0) κrows u32)) (shows 𝓤 H A (MutSlice (named 0) κrows u32)) (Ref brows orows γrows (left .tables .rows)) (slice brows orows rows ∷ []) (λ atrows.
+        move ! (3 ∷ []) $ peeks ! (MutSlice (named 0) κmarks u32) (Is (MutSlice (named 0) κmarks u32)) (shows 𝓤 H A (MutSlice (named 0) κmarks u32)) (Ref bmarks omarks γmarks (left .tables .marks)) (slice bmarks omarks marks ∷ []) (λ atmarks.
+        move ! (2 ∷ []) $ peeks ! (MutSlice (named 0) κstores u8) (Is (MutSlice (named 0) κstores u8)) (shows 𝓤 H A (MutSlice (named 0) κstores u8)) (Ref bstores ostores γstores (left .tables .stores)) (slice bstores ostores stores ∷ []) (λ atstores.
+        keep ! (5 ∷ 4 ∷ 3 ∷ 2 ∷ 1 ∷ 0 ∷ []) $ by ! (exits is1 (kept-long u32 κrows brows orows γrows rows (left .tables .rows) roomrows atrows) (kept-long u32 κmarks bmarks omarks γmarks marks (left .tables .marks) roommarks atmarks) (kept-long u8 κstores bstores ostores γstores stores (left .tables .stores) roomstores atstores))))))))))))))))))))))))))))))))))
 
 module _ {M : Type 1} (𝓤 : URA M) (H : Heap 𝓤) (A : Atoms 𝓤) (W : Given 𝓤 H A) (mem : Memory → SProp 𝓤) (run : Routine → Fun 𝓤) where
   walks : (C : Calls 𝓤 H) (Λ : Loops 𝓤 H) → FmC 𝓤 H (W .laws) C → Triple 𝓤 (C #set-up′) (SetUp 𝓤 H A mem run) → Triple 𝓤 (C #begun-of′) (BegunOf 𝓤 H A mem run) → Walks 𝓤 H A me.ended stayed (WpFn 𝓤 H C Λ code.function) (me.clauses 𝓤 H A mem run)
