@@ -45,6 +45,13 @@ enum {
     SPINDLEFIG_REFUSED = 7    /* the refusal */
 };
 
+/* ---- Kinds of what stands at a place of the modifiers, and the number that follows the next place and the kind in its row. ---- */
+enum {
+    SPINDLEFIG_BOXES_END = 0,
+    SPINDLEFIG_BOX = 1,       /* the type */
+    SPINDLEFIG_NO_BOX = 2     /* the refusal, 15 */
+};
+
 /* Makes what n desks need fresh. Answers 0, or 1 where n is not 1 to 8 or something is too short. */
 size_t spindlefig_set_up(size_t n,
                          spindlefig_place *places, size_t places_len,
@@ -53,7 +60,8 @@ size_t spindlefig_set_up(size_t n,
                          uint8_t *stores, size_t stores_len);
 
 /* Takes the unit at the front of the rest. The row gets: bytes used, next running time, kind, and the numbers of the kind.
- * Answers the bytes used: hand `next` back as the time, and go on so many bytes further, until the kind is the end. */
+ * Answers the bytes used: hand `next` back as the time, and go on so many bytes further, until no bytes are used. That is at the end of
+ * the payload, and for refusals 1 and 2, which no later call of the same payload would escape. */
 size_t spindlefig_receive(size_t desks,
                           spindlefig_place *places, size_t places_len,
                           uint32_t *rows, size_t rows_len,
@@ -97,8 +105,8 @@ void spindlefig_describe(size_t sidx,
                          uint8_t *out, size_t out_len,
                          uint64_t *row, size_t row_len);
 
-/* What stands at a place of the modifiers. The row gets: the next place, then 0 at the end, 1 and the type for a box, or 15.
- * A box's contents are the bytes from its place and 8 on, up to the next place. */
+/* What stands at a place of the modifiers. The row gets: the next place, the kind, and the number of the kind. A box's contents are the
+ * bytes from its place and 8 on, up to the next place. */
 void spindlefig_box(const uint8_t *modifiers, size_t modifiers_len, size_t at, uint64_t *row, size_t row_len);
 
 /* The length in bytes of the character at a place (u 0: UTF-8, else UTF-16 big-endian), and 0 where none is well-formed. */

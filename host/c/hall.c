@@ -1,4 +1,4 @@
-/* A caption hall in C: two desks, one caption cut and joined again, one style, one refusal. Prints what the screens show. */
+/* A caption hall in C: two desks, one caption cut and joined again, one style, some refusals. Prints what the screens show. */
 #include "spindlefig.h"
 
 #include <stdio.h>
@@ -73,6 +73,25 @@ static void receive(hall *h, size_t desk, uint32_t time, const uint8_t *rest, si
     printf("\n");
 }
 
+/* Goes through a payload with so much room for the answers, until no bytes are used, as every caller does. */
+static void go_through(hall *h, size_t desk, const uint8_t *rest, size_t len, size_t room) {
+    uint32_t time = 0;
+    size_t calls = 0, used;
+    do {
+        used = spindlefig_receive(DESKS, h->places, spindlefig_places(DESKS), h->rows, spindlefig_rows(DESKS), h->marks,
+                                  spindlefig_marks(DESKS), h->stores, spindlefig_stores(DESKS), desk, time, rest, len,
+                                  h->out, room, h->row, 9);
+        rest += used;
+        len -= used;
+        time = (uint32_t)h->row[1];
+        calls++;
+    } while (used > 0);
+    printf("desk %zu room %zu: calls %zu, last kind %llu", desk, room, calls, (unsigned long long)h->row[2]);
+    if (h->row[2] == SPINDLEFIG_REFUSED)
+        printf(" %llu", (unsigned long long)h->row[3]);
+    printf("\n");
+}
+
 /* Cuts a caption by the writer and plays its payloads, the last first. */
 static void play_caption(hall *h, size_t desk, uint32_t time, const char *text, const uint8_t *modifiers, size_t len) {
     uint8_t payload[LIMIT];
@@ -100,17 +119,21 @@ static void play_style(hall *h, size_t desk, const char *style) {
 static void walk(hall *h, const uint8_t *modifiers, size_t len) {
     size_t at = 0;
     spindlefig_box(modifiers, len, at, h->row, 9);
-    while (h->row[1] == 1) {
+    while (h->row[1] == SPINDLEFIG_BOX) {
         printf("box %.4s with %llu bytes\n", (const char *)modifiers + at + 4, (unsigned long long)h->row[0] - at - 8);
         at = (size_t)h->row[0];
         spindlefig_box(modifiers, len, at, h->row, 9);
     }
-    printf("walk ends with %llu\n", (unsigned long long)h->row[1]);
+    if (h->row[1] == SPINDLEFIG_NO_BOX)
+        printf("walk refused by %llu\n", (unsigned long long)h->row[2]);
+    else
+        printf("walk ends\n");
 }
 
 int main(void) {
     static const uint8_t blink[12] = {0, 0, 0, 12, 'b', 'l', 'n', 'k', 0, 0, 0, 3};
     static const uint8_t bad[5] = {1, 0, 0, 128, 0};
+    static const uint8_t skipped[6] = {6, 0, 2, 7, 0, 2};
     hall h = open_hall();
     play_caption(&h, 0, 1000, "The fox enters, and the hens laugh.", blink, sizeof blink);
     receive(&h, 1, 1000, bad, sizeof bad);
@@ -118,6 +141,10 @@ int main(void) {
     refuse_short(&h);
     play_style(&h, 1, "white");
     walk(&h, blink, sizeof blink);
+    walk(&h, blink, sizeof blink - 1);
+    go_through(&h, 0, skipped, sizeof skipped, sizeof h.out);
+    go_through(&h, DESKS, skipped, sizeof skipped, sizeof h.out);
+    go_through(&h, 0, skipped, sizeof skipped, sizeof h.out - 1);
     printf("give-up of a sample not open: %zu\n",
            spindlefig_give_up(DESKS, h.places, spindlefig_places(DESKS), h.rows, spindlefig_rows(DESKS), h.marks,
                               spindlefig_marks(DESKS), 0, 1000));

@@ -1,13 +1,14 @@
 -- What the writer cuts is put together again: for every sample that it does not refuse, the parts that the unit reader finds in its
 -- payloads, whatever follows each payload, agree with each other and make, by the rules of joining, the same sample.
 -- Assumes nothing.
-use Prim.Native.Nat.{ℕ, zero, suc, _+_, _-_, _≤_, _<_}
+use Prim.Native.Nat.{ℕ, suc, _-_, _≤_, _<_}
 use native.Mathlib.Omega.{arith}
 use mathlib.Core.Path.{_≡_, refl, sym, ap, _∙_}
 use mathlib.Core.Bool.{true, false}
-use mathlib.Core.List.{List, [], _∷_, _++_}
+use mathlib.Core.List.{List, [], _++_}
 use lib.ListN.{length, getD}
 use lib.Seq.{ext-getD}
+use Rattle.laws.specs.Lists.{enumerated, length-enumerated, getD-enumerated}
 use Rattle.laws.specs.Rows.{each, eq, eq-of, ne-of, and-is}
 use Rattle.joining.specs.Joining.{Piece, piece, together, stringOf, sound}
 use Rattle.text.specs.Strings.{well-formed}
@@ -32,24 +33,6 @@ pieceOf s (Description w) = piece 0 []
 
 abbrev pub pieceRead : List ℕ → Piece
 pieceRead s = pieceOf s (readOf s .unit)
-
--- f from, .., n of them
-unfoldable pub listed : {A : Type 0} → (from n : ℕ) → (ℕ → A) → List A
-listed from zero f = []
-listed from (suc n) f = f from ∷ listed (suc from) n f
-
-length-listed : {A : Type 0} (from n : ℕ) (f : ℕ → A) → length (listed from n f) ≡ n
-unfolding listed
-length-listed from zero f = refl
-length-listed from (suc n) f = ap suc (length-listed (suc from) n f)
-
-listed-at : {A : Type 0} (from n : ℕ) (f : ℕ → A) (i : ℕ) (d : A) → i < n → getD (listed from n f) i d ≡ f (from + i)
-unfolding listed
-listed-at from zero f i d h = absurd (omega arith)
-listed-at from (suc n) f zero d h = let q : from ≡ from + 0 = omega arith in ap f q
-listed-at from (suc n) f (suc i) d h =
-    let q : suc from + i ≡ from + suc i = omega arith in
-    listed-at (suc from) n f i d (omega arith) ∙ ap f q
 
 -- ---- what document 01 asks of a part before it is kept: the unit of payload number k is a part of this sample
 pub record Agrees (c : Caption) (M k : ℕ) (w : P.Part) : Type 0 where
@@ -104,16 +87,16 @@ module _ (c : Caption) (M room : ℕ) (v : Writable c M room) (u : uncut c M ≡
 
     -- the parts by THIS, as they are read
     abbrev pub read : List Piece
-    read = listed 1 (count c M) (λ k. pieceRead (payload c M k ++ more k))
+    read = enumerated (count c M) (λ i. pieceRead (payload c M (suc i) ++ more (suc i)))
 
     pub parts-read : read ≡ parts c M
     parts-read =
-        let n = length-listed 1 (count c M) (λ k. pieceRead (payload c M k ++ more k)) in
-        ext-getD (piece 2 []) read (parts c M) (n ∙ cut-count c M l)
+        let r : ℕ → Piece = λ i. pieceRead (payload c M (suc i) ++ more (suc i)) in
+        ext-getD (piece 2 []) read (parts c M) (length-enumerated (count c M) r ∙ cut-count c M l)
         (λ i h.
-        let q : 1 + i - 1 ≡ i = omega arith in
-        listed-at 1 (count c M) (λ k. pieceRead (payload c M k ++ more k)) i (piece 2 []) (omega arith)
-        ∙ part-read (1 + i) (omega arith) (omega arith) ∙ ap (λ (j : ℕ). getD (parts c M) j (piece 2 [])) q)
+        let q : suc i - 1 ≡ i = omega arith in
+        getD-enumerated (count c M) r i (piece 2 []) (omega (arith, length-enumerated (count c M) r))
+        ∙ part-read (suc i) (omega arith) (omega (arith, length-enumerated (count c M) r)) ∙ ap (λ (j : ℕ). getD (parts c M) j (piece 2 [])) q)
 
     -- they make a sample, of the length that each string part tells
     pub again-sound : sound (length (sample c)) read ≡ true

@@ -1,2 +1,4 @@
+pub mod Words
 pub mod Step
 pub mod Walk
+pub mod Again

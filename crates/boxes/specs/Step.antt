@@ -64,15 +64,15 @@ unfolding contentsOf
 contents-is m at s f e g = rw (← e, g)
 
 -- ---- what each finding says of the place and the next one
-abbrev pub Told : List ℕ → ℕ → Found → ℕ → Type 0
-Told m at End next = at ≡ length m
-Told m at (Box t) next = (next ≡ at + sizeAt m at) × ((headerSize ≤ sizeAt m at) × (next ≤ length m))
-Told m at (Refused r) next = r ≡ R.Box
+abbrev pub Says : List ℕ → ℕ → Found → ℕ → Type 0
+Says m at End next = at ≡ length m
+Says m at (Box t) next = (next ≡ at + sizeAt m at) × ((headerSize ≤ sizeAt m at) × (next ≤ length m))
+Says m at (Refused r) next = r ≡ R.Box
 
-pub told : (m : List ℕ) (at : ℕ) → Told m at (stepOf m at .found) (stepOf m at .next)
+pub step-says : (m : List ℕ) (at : ℕ) → Says m at (stepOf m at .found) (stepOf m at .next)
 unfolding stepOf
-told m at =
-    let P : Stepped → Type 0 = λ s. Told m at (s .found) (s .next) in
+step-says m at =
+    let P : Stepped → Type 0 = λ s. Says m at (s .found) (s .next) in
     each P _ _ _ (λ h. refl)
     (λ h1. each P _ _ _ (λ h. eq-of _ _ h)
     (λ h2. each P _ _ _ (λ h. refl)
@@ -82,7 +82,7 @@ told m at =
 
 -- the next place lies behind the header and not beyond the end, so a walk ends
 pub further : (m : List ℕ) (at : ℕ) {t : ℕ} → stepOf m at .found ≡ Box t → (at + headerSize ≤ stepOf m at .next) × (stepOf m at .next ≤ length m)
-further m at {t} e = let w : Told m at (Box t) (stepOf m at .next) = rw e at (told m at) in (omega arith, omega arith)
+further m at {t} e = let w : Says m at (Box t) (stepOf m at .next) = rw e at (step-says m at) in (omega arith, omega arith)
 
 pub refusal-15 : (m : List ℕ) (at : ℕ) {r : Refusal} → stepOf m at .found ≡ Refused r → numberOf r ≡ 15
-refusal-15 m at {r} e = let w : Told m at (Refused r) (stepOf m at .next) = rw e at (told m at) in ap numberOf w
+refusal-15 m at {r} e = let w : Says m at (Refused r) (stepOf m at .next) = rw e at (step-says m at) in ap numberOf w

@@ -10,7 +10,7 @@ use Rattle.laws.specs.Region.{part}
 use Rattle.paper.specs.declared.Refusal.the-variants as R
 use Rattle.boxes.specs.declared.Found.{Found}
 use Rattle.boxes.specs.declared.Found.the-variants.{End, Box, Refused}
-use Rattle.boxes.specs.Step.{headerSize, sizeAt, stepOf, contentsOf, contents-is, Told, told, further}
+use Rattle.boxes.specs.Step.{headerSize, sizeAt, stepOf, contentsOf, contents-is, Says, step-says, further}
 
 -- a box as the walk shows it
 pub record Shown : Type 0 where
@@ -59,13 +59,13 @@ module _ (m : List ℕ) (at : ℕ) where
   -- at the end nothing is left
   end-again : stepOf m at .found ≡ End → [] ≡ drop at m
   end-again e =
-      let w : Told m at End (stepOf m at .next) = rw e at (told m at) in
+      let w : Says m at End (stepOf m at .next) = rw e at (step-says m at) in
       sym (drop-of-length-le m {i = at} (omega arith))
 
   -- a box is its header and its contents, and the rest starts at the next place
   box-again : (t : ℕ) → stepOf m at .found ≡ Box t → part at headerSize m ++ (contentsOf m at ++ drop (stepOf m at .next) m) ≡ drop at m
   box-again t e =
-      let w : Told m at (Box t) (stepOf m at .next) = rw e at (told m at) in
+      let w : Says m at (Box t) (stepOf m at .next) = rw e at (step-says m at) in
       rw (← (contents-is m at (stepOf m at) (Box t) refl e), w .0) (again m at headerSize (sizeAt m at) (w .1 .0))
 
   walked-on : (f : Found) (w : Walk) → stepOf m at .found ≡ f
@@ -93,12 +93,12 @@ module _ (m : List ℕ) (at : ℕ) where
   stops-at : (f : Found) → stepOf m at .found ≡ f → ((t : ℕ) → f ≡ Box t → ⊥) → Stops f
   stops-at End e k = inl refl
   stops-at (Box t) e k = absurd (k t refl)
-  stops-at (Refused r) e k = inr (ap Refused (rw e at (told m at)))
+  stops-at (Refused r) e k = inr (ap Refused (rw e at (step-says m at)))
 
   stops-on : (f : Found) (w : Walk) → stepOf m at .found ≡ f → ((t : ℕ) → f ≡ Box t → Stops (w .ended)) → Stops (onward f (shown m at) w .ended)
   stops-on End w e k = inl refl
   stops-on (Box t) w e k = k t refl
-  stops-on (Refused r) w e k = inr (ap Refused (rw e at (told m at)))
+  stops-on (Refused r) w e k = inr (ap Refused (rw e at (step-says m at)))
 
 stops-of : (n : ℕ) (m : List ℕ) (at : ℕ) → length m ≤ at + n → Stops (walkOf n m at .ended)
 unfolding walkOf

@@ -3,7 +3,20 @@ use hall::Hall;
 use libc::STDOUT_FILENO;
 use writer::Written;
 
-const PART_1: [u8; 12] = [2, 0, 11, 0x21, 0, 0, 100, 128, 0, 14, 0x48, 0x69];
+const PART_1: [u8; 12] = [
+    0x02,
+    0x00,
+    0x0b,
+    0x21,
+    0x00,
+    0x00,
+    0x64,
+    0x80,
+    0x00,
+    0x0e,
+    0x48,
+    0x69,
+];
 
 const PART_2: [u8; 19] = [
     3,
@@ -50,27 +63,30 @@ fn play(h: Hall, desk: usize, time: u32, payload: &[u8]) -> Hall {
 }
 
 // A description of one byte.
-fn describe(h: Hall, time: u32, sidx: u8) -> Hall {
-    play(h, 0, time, &[5, 0, 4, sidx, 65])
+fn describe(h: Hall, sidx: u8, byte: u8) -> Hall {
+    play(h, 0, 0, &[0x05, 0x00, 0x04, sidx, byte])
 }
 
-// How long a description is that the index shows; 0 where none is held.
+// How long a description is that the index shows, and its bytes; 0 where none is held.
 fn look(h: Hall, index: usize) -> Hall {
     let marks = h.marks;
     let stores = h.stores;
     let book = [0u8; 0];
+    let d = relay::lookup(h.relay, &marks, &stores, 0, index, &book);
     number(b"index ", index);
-    number(
-        b" shows ",
-        relay::lookup(h.relay, &marks, &stores, 0, index, &book).len(),
-    );
+    number(b" shows ", d.len());
+    if 0 < d.len() {
+        print(b" ");
+        print(d);
+    }
     print(b"\n");
     h
 }
 
-fn write(many: usize, m: usize, k: usize) {
+// A payload of so many letters: the answer, and whether the output is then as `left` has it.
+fn write(many: usize, m: usize, k: usize, left: &[u8]) {
     let letters = [97u8; 64];
-    let mut out = [0u8; 32];
+    let mut out = [0xeeu8; 20];
     let w = writer::write_sample(
         0,
         128,
@@ -88,6 +104,9 @@ fn write(many: usize, m: usize, k: usize) {
         }
         Written::Refused(r) => number(b"refused ", paper::number(r)),
     }
+    if octets::same(&out, left) {
+        print(b", the output as said");
+    }
     print(b"\n");
 }
 
@@ -97,17 +116,39 @@ fn units() {
         hall::set_up(1),
         0,
         1000,
-        &[1, 0, 10, 128, 1, 0x5f, 0x90, 0, 2, 0x48, 0x69],
+        &[
+            0x01,
+            0x00,
+            0x0a,
+            0x80,
+            0x01,
+            0x5f,
+            0x90,
+            0x00,
+            0x02,
+            0x48,
+            0x69,
+        ],
     );
-    play(hall::set_up(1), 0, 0, &[1, 0, 8, 128, 0, 0, 1, 0, 0]);
-    play(hall::set_up(1), 0, 0, &[1, 0, 7, 128, 0, 0, 1, 0]);
-    play(hall::set_up(1), 0, 0, &[1, 0, 1]);
-    play(hall::set_up(1), 0, 0, &[6, 0, 2]);
+    play(
+        hall::set_up(1),
+        0,
+        0,
+        &[0x01, 0x00, 0x08, 0x80, 0x00, 0x00, 0x01, 0x00, 0x00],
+    );
+    play(
+        hall::set_up(1),
+        0,
+        0,
+        &[0x01, 0x00, 0x07, 0x80, 0x00, 0x00, 0x01, 0x00],
+    );
+    play(hall::set_up(1), 0, 0, &[0x01, 0x00, 0x01]);
+    play(hall::set_up(1), 0, 0, &[0x06, 0x00, 0x02]);
     play(
         hall::set_up(1),
         0,
         4294967295,
-        &[1, 0, 8, 128, 0, 0, 2, 0, 0],
+        &[0x01, 0x00, 0x08, 0x80, 0x00, 0x00, 0x02, 0x00, 0x00],
     );
     let h = play(hall::set_up(1), 0, 5, &PART_1);
     play(h, 0, 5, &PART_2);
@@ -117,14 +158,12 @@ fn units() {
 
 fn descriptions() {
     print(b"case 9\n");
-    let h = describe(hall::set_up(1), 0, 10);
-    let h = describe(h, 0, 74);
+    let h = describe(hall::set_up(1), 10, 0x41);
+    let h = describe(h, 74, 0x42);
     look(look(h, 10), 74);
-    let h = describe(hall::set_up(1), 0, 10);
-    let h = describe(h, 0, 75);
-    let h = look(h, 10);
-    let h = describe(h, 0, 74);
-    look(look(h, 10), 74);
+    let h = describe(hall::set_up(1), 10, 0x41);
+    let h = describe(h, 75, 0x42);
+    look(look(h, 10), 75);
 }
 
 fn shares() {
@@ -141,14 +180,38 @@ fn shares() {
     play(h, 1, 3, &PART_1);
 }
 
+fn payloads() {
+    print(b"cases 11 and 12\n");
+    write(
+        8,
+        14,
+        1,
+        b"\x02\x00\x0d\x21\x00\x00\x01\x80\x00\x08aaaa\xee\xee\xee\xee\xee\xee",
+    );
+    write(
+        8,
+        14,
+        2,
+        b"\x02\x00\x0d\x22\x00\x00\x01\x80\x00\x08aaaa\xee\xee\xee\xee\xee\xee",
+    );
+    write(
+        8,
+        17,
+        1,
+        b"\x01\x00\x10\x80\x00\x00\x01\x00\x08aaaaaaaa\xee\xee\xee",
+    );
+    write(
+        60,
+        14,
+        15,
+        b"\x02\x00\x0d\xff\x00\x00\x01\x80\x00\x3caaaa\xee\xee\xee\xee\xee\xee",
+    );
+    write(61, 14, 1, &[0xee; 20]);
+}
+
 fn main() {
     units();
     descriptions();
     shares();
-    print(b"cases 11 and 12\n");
-    write(8, 14, 1);
-    write(8, 14, 2);
-    write(8, 17, 1);
-    write(60, 14, 15);
-    write(61, 14, 1);
+    payloads();
 }

@@ -17,7 +17,7 @@ ghost use Prim.Native.Nat.{ℕ};
 ghost use lib.ListN.{set};
 ghost use Rattle.finished.specs.Times.{late, markedRow, markedUsed};
 ghost use Rattle.unit.specs.Layout.{readOf};
-ghost use Rattle.desk.specs.Desk.{inUse, own, says, told, turn, left, isPart, passed, later, laterPart, facts, wholeTaken, sampleOf, conflicts, six, usedUp, completed, joining, partTaken, descriptionTaken, received, freed, givenUp};
+ghost use Rattle.desk.specs.Desk.{inUse, own, says, answering, turn, left, isPart, passed, later, laterPart, facts, wholeTaken, sampleOf, conflicts, six, usedUp, completed, joining, partTaken, descriptionTaken, received, freed, givenUp};
 
 // How many samples the desk has open, the common use, and how many desks there are.
 pub struct Shares {
@@ -33,7 +33,7 @@ pub struct Turn {
 }
 
 fn said(place: Place, used: usize, next: u32, outcome: Outcome) -> Turn
-    ensures { λ r. ⌜ r ≡ told place used next outcome ⌝ }
+    ensures { λ r. ⌜ r ≡ answering place used next outcome ⌝ }
 {
     Turn {
         place,

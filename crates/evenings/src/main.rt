@@ -10,14 +10,49 @@ fn bad_unit() {
     hear::print(b"one bad unit\n");
     let h = hear::send(hall::set_up(2), 0, 100, b"Good evening.", 200, 1);
     let h = hear::send(h, 0, 200, &TEXT, 30, 1);
-    let h = hear::payload(h, 1, 100, &[1, 0, 0, 128, 0]);
+    let h = hear::payload(h, 1, 100, &[0x01, 0x00, 0x00, 0x80, 0x00]);
     let h = hear::send(h, 0, 200, &TEXT, 30, 2);
-    hear::payload(h, 1, 100, &[1, 0, 11, 128, 0, 0, 50, 0, 3, 89, 101, 115]);
+    hear::payload(
+        h,
+        1,
+        100,
+        &[
+            0x01,
+            0x00,
+            0x0b,
+            0x80,
+            0x00,
+            0x00,
+            0x32,
+            0x00,
+            0x03,
+            0x59,
+            0x65,
+            0x73,
+        ],
+    );
 }
 
 // Desk 7 opens a sample.
 fn opened(h: Hall, time: u32) -> Hall {
-    hear::payload(h, 7, time, &[2, 0, 10, 0x21, 0, 0, 9, 128, 0, 4, 63])
+    hear::payload(
+        h,
+        7,
+        time,
+        &[
+            0x02,
+            0x00,
+            0x0a,
+            0x21,
+            0x00,
+            0x00,
+            0x09,
+            0x80,
+            0x00,
+            0x04,
+            0x3f,
+        ],
+    )
 }
 
 // It opens all that it can, and finishes none.

@@ -3,55 +3,39 @@ use Prim.Native.Nat.{ℕ, _*_}
 use mathlib.Core.List.{List, [], _∷_}
 use lib.Seq.{sets}
 use Rattle.laws.specs.Rows.{_⇒_⁏_}
-use Rattle.paper.specs.Words.{numberOf, kindOf, valuesOf}
+use Rattle.paper.specs.Words.{kindOf, valuesOf}
 use Rattle.paper.specs.declared.Answer.{Answer}
 use Rattle.style.specs.declared.Checked.{Checked}
-use Rattle.style.specs.declared.Checked.the-variants as C
+use Rattle.style.specs.Book.{checkedNumber, checkedValues}
 use Rattle.boxes.specs.declared.Found.{Found}
-use Rattle.boxes.specs.declared.Found.the-variants as F
+use Rattle.boxes.specs.Words.{foundKind, foundValues}
 use Rattle.writer.specs.declared.Written.{Written}
-use Rattle.writer.specs.declared.Written.the-variants as W
+use Rattle.writer.specs.Write.{writtenNumber, writtenValues}
 use Rattle.writer.specs.Write as Write
-use Rattle.desk.specs.declared.GivenUp.{GivenUp}
-use Rattle.desk.specs.declared.GivenUp.the-variants as G
+use Rattle.desk.specs.Desk.{givenUpNumber}
 use Rattle.relay.specs.declared.Relay.{Relay}
-use Rattle.relay.specs.declared.Started.{Started}
-use Rattle.relay.specs.declared.Started.the-variants as S
-use Rattle.relay.specs.Relay.{Tables, Made, Done, Released, improper}
+use Rattle.relay.specs.Relay.{Tables, Prepared, startedNumber, Done, Released, improper}
 
 -- ---- the numbers of each answer
 -- used, next, the outcome's kind, and its values
 abbrev pub answerRow : Answer → List ℕ
 answerRow a = a .used ∷ a .next ∷ kindOf (a .outcome) ∷ valuesOf (a .outcome)
 
--- 0 and how many records; or the refusal and the first bad record's number
+-- 0, or the refusal, and the values: how many records, or the first bad one's number
 abbrev pub checkedRow : Checked → List ℕ
-checkedRow (C.Good n) = 0 ∷ n ∷ []
-checkedRow (C.Refused r i) = numberOf r ∷ i ∷ []
+checkedRow c = checkedNumber c ∷ checkedValues c
 
 -- 0, the payload's length and how many there are; or the refusal
 abbrev pub writtenRow : Written → List ℕ
-writtenRow (W.Payload len count) = 0 ∷ len ∷ count ∷ []
-writtenRow (W.Refused r) = numberOf r ∷ []
+writtenRow w = writtenNumber w ∷ writtenValues w
 
--- the next place; then 0 at the end, 1 and the type for a box, or the refusal
+-- the next place, the kind of what was found, and its values
 abbrev pub steppedRow : (next : ℕ) → Found → List ℕ
-steppedRow next F.End = next ∷ 0 ∷ []
-steppedRow next (F.Box t) = next ∷ 1 ∷ t ∷ []
-steppedRow next (F.Refused r) = next ∷ numberOf r ∷ []
+steppedRow next f = next ∷ foundKind f ∷ foundValues f
 
 -- what the later calls take: how many desks there are
 abbrev pub relayWith : (desks : ℕ) → Relay
 relayWith desks = record { desks = desks }
-
--- 0, or the refusal
-abbrev pub startedNumber : Started → ℕ
-startedNumber (S.Ready r) = 0
-startedNumber (S.Refused r) = numberOf r
-
-abbrev pub givenUpNumber : GivenUp → ℕ
-givenUpNumber G.Freed = 0
-givenUpNumber (G.Refused r) = numberOf r
 
 -- ---- what a caller lends
 -- the bytes of a place in memory
@@ -78,7 +62,7 @@ pub record Numbered : Type 0 where
 abbrev pub numbered : Tables → ℕ → Numbered
 numbered s n = record { tables = s; number = n }
 
-abbrev pub startedAs : Made → Numbered
+abbrev pub startedAs : Prepared → Numbered
 startedAs m = numbered (m .tables) (startedNumber (m .answer))
 
 abbrev pub releasedAs : Released → Numbered

@@ -22,12 +22,13 @@ ghost use lib.ListN.{length, drop, set};
 ghost use lib.Seq.{sets};
 ghost use Rattle.paper.specs.Limits.{sampleMost, finishedMost, desksMost, placesEach, marksEach, storeSize};
 ghost use Rattle.paper.specs.Words.{factsOf, valuesOf};
-ghost use Rattle.relay.specs.Relay.{tables, setUp, receivedAt, givenUpAt, lookedUp};
+ghost use Rattle.desk.specs.Desk.{givenUpNumber};
+ghost use Rattle.relay.specs.Relay.{tables, startedNumber, setUp, receivedAt, givenUpAt, lookedUp};
 ghost use Rattle.style.specs.Book.{checkOf};
 ghost use Rattle.boxes.specs.Step.{stepOf};
 ghost use Rattle.text.specs.Unicode.{character};
 ghost use Rattle.writer.specs.Write.{caption, written, described};
-ghost use Rattle.export.specs.Export.{answerRow, checkedRow, writtenRow, steppedRow, placeSize, rowMost, served, needed, relayWith, startedNumber, givenUpNumber, numbered, startedAs, releasedAs, rowed, doneAs, wrote, writtenAs};
+ghost use Rattle.export.specs.Export.{answerRow, checkedRow, writtenRow, steppedRow, placeSize, rowMost, served, needed, relayWith, numbered, startedAs, releasedAs, rowed, doneAs, wrote, writtenAs};
 
 // Stores a number in a row; past the end, nothing.
 fn put_at(row: &mut [u64], i: usize, v: usize)
@@ -113,7 +114,7 @@ fn put_stepped(row: &mut [u64], next: usize, f: Found)
     match f {
         Found::End => put_two(row, next, 0),
         Found::Box(t) => put_three(row, next, 1, t),
-        Found::Refused(r) => put_two(row, next, paper::number(r)),
+        Found::Refused(r) => put_three(row, next, 2, paper::number(r)),
     }
 }
 

@@ -13,9 +13,9 @@ use Rattle.laws.specs.Table.{seek}
 use Rattle.paper.specs.Limits.{finishedMost, inBand, placesEach, marksEach, storeSize, places}
 use Rattle.sample.specs.Place.{closed}
 use Rattle.table.specs.Table.{isAt}
-use Rattle.relay.specs.Relay.{Tables, tables, improper, short, lacking, Made, freshMarks, setUp}
+use Rattle.relay.specs.Relay.{Tables, tables, improper, short, lacking, Prepared, ready, freshMarks, setUp}
 use Rattle.good.specs.Fair.{fair-closed}
-use Rattle.good.specs.Good.{front}
+use Rattle.good.specs.Good.{ready-exactly, front, none-open}
 use Rattle.good.specs.View.{View, view, same-view, fresh-length}
 
 -- no sample open, no time finished, no newest value, no description held
@@ -57,19 +57,15 @@ marks-alike (suc n) zero h = refl
 marks-alike (suc n) (suc d) h =
     let q : marksEach * suc d ≡ suc (suc (marksEach * d)) = omega arith in rw q (marks-alike n d (omega arith))
 
-none-open : (k i : ℕ) → getD (replicate k closed) i closed ≡ closed
-none-open zero i = refl
-none-open (suc k) zero = refl
-none-open (suc k) (suc i) = none-open k i
-
-pub set-up-view : (n d : ℕ) (s : Tables) → (improper n or lacking n s) ≡ false → d < n → view n d (setUp n s .tables) ≡ freshView
+pub set-up-view : (n d : ℕ) (s : Tables) → setUp n s .answer ≡ ready n → d < n → view n d (setUp n s .tables) ≡ freshView
 unfolding setUp short
-set-up-view n d s e h =
+set-up-view n d s q h =
+    let e = ready-exactly n s .0 q in
     let c = or-none _ _ (or-none _ _ e .1) in
     let three = or-none _ _ (c .0) in
     let two = or-none _ _ (three .1) in
     let f = front (places n) (s .places) (ge-of _ _ (three .0)) in
-    subst (λ (m : Made). view n d (m .tables) ≡ freshView) (no _ _ e refl)
+    subst (λ (m : Prepared). view n d (m .tables) ≡ freshView) (no _ _ e refl)
     (same-view _ _ (λ time. rw f (none-open (places n) (seek (isAt d time) (replicate (places n) closed))))
     (rw f (fair-closed 0 (places n) .whose d zero-le)) (cell-fresh finishedMost n d h 0 (s .rows) (ge-of _ _ (two .0)))
     (cell-stored marksEach n d h (freshMarks n) (s .marks) (fresh-length n) (ge-of _ _ (two .1)) ∙ marks-alike n d h)
@@ -89,13 +85,20 @@ all-stored : {A : Type 0} (vs l : List A) → length l ≡ length vs → sets l 
 all-stored {A = A} vs l e =
     sets-eq vs l 0 (omega arith) ∙ ap (λ (r : List A). vs ++ r) (drop-of-length-le l {i = 0 + length vs} (omega arith)) ∙ append-nil vs
 
+exact-long : (n : ℕ) (s : Tables) → improper n ≡ false → Exact n s → (improper n or lacking n s) ≡ false
+unfolding short
+exact-long n s p x =
+    sym (no _ true p (no _ true (sym (no _ true (ge _ _ (omega (arith, x .places))) (no _ true (ge _ _ (omega (arith, x .rows))) (sym (ge _ _ (omega (arith, x .marks)))))))
+    (sym (ge _ _ (omega (arith, x .stores))))))
+
+pub exact-ready : (n : ℕ) (s : Tables) → improper n ≡ false → Exact n s → setUp n s .answer ≡ ready n
+exact-ready n s p x = ready-exactly n s .1 (exact-long n s p x)
+
 pub set-up-exact : (n : ℕ) (s : Tables) → improper n ≡ false → Exact n s → setUp n s .tables ≡ exactTables n
 unfolding setUp short
 set-up-exact n s p x =
-    let e : (improper n or lacking n s) ≡ false =
-    sym (no _ true p (no _ true (sym (no _ true (ge _ _ (omega (arith, x .places))) (no _ true (ge _ _ (omega (arith, x .rows))) (sym (ge _ _ (omega (arith, x .marks)))))))
-    (sym (ge _ _ (omega (arith, x .stores)))))) in
-    subst (λ (m : Made). m .tables ≡ exactTables n) (no _ _ e refl)
+    let e = exact-long n s p x in
+    subst (λ (m : Prepared). m .tables ≡ exactTables n) (no _ _ e refl)
     (λ i.
     tables (all-stored (replicate (places n) closed) (s .places) (x .places ∙ sym (length-replicate (places n) closed)) i)
     (all-stored (replicate (finishedMost * n) 0) (s .rows) (x .rows ∙ sym (length-replicate {A = ℕ} (finishedMost * n) 0)) i)

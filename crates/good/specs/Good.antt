@@ -1,23 +1,33 @@
--- Good tables: long enough for n desks, and with fair places. Set-up makes them and every call keeps them, whatever it is handed.
--- Assumes nothing.
-use Prim.Native.Nat.{ℕ, _*_, _≤_, _<_}
+-- Good tables: long enough for n desks, with fair places, each of them as its parts made it. Set-up makes them and every call keeps
+-- them, whatever it is handed. Assumes nothing.
+use Prim.Native.Nat.{ℕ, zero, suc, _*_, _≤_, _<_}
 use native.Mathlib.Omega.{arith}
 use mathlib.Core.Path.{_≡_, refl, sym, ap, subst, _∙_}
 use mathlib.Core.Bool.{Bool, true, false, not}
-use mathlib.Core.List.{List, []}
-use lib.ListN.{length, take, drop, replicate, length-append, length-set, length-replicate}
+use mathlib.Core.List.{List, [], _∷_}
+use lib.ListN.{length, take, drop, getD, set, replicate, length-append, length-set, length-replicate}
 use lib.Seq.{sets, length-sets, length-take-le, take-at, sets-eq}
 use Rattle.laws.specs.Rows.{_⇒_⁏_, _or_, _<?_, no, lt, ge, ne, lt-of, ge-of, ne-of, or-none}
+use Rattle.laws.specs.Exactly.{Exactly}
 use Rattle.laws.specs.Region.{length-cell, length-cells}
 use Rattle.paper.specs.Limits.{finishedMost, desksMost, placesEach, marksEach, storeSize, places}
+use Rattle.paper.specs.declared.Refusal.the-variants as R
 use Rattle.sample.specs.declared.Place.{Place}
 use Rattle.sample.specs.Place.{closed}
+use Rattle.sample.specs.Kept.{Made}
+use Rattle.sample.specs.Made.{closed-made}
 use Rattle.desk.specs.Desk.{Own}
-use Rattle.relay.specs.Relay.{Tables, within, ownOf, sharesOf, placed, standsAt, putBack, improper, stranger, short, lacksThree, lacking, Made, freshMarks, setUp, ordered, receivedAt, yielded, givenUpAt}
+use Rattle.relay.specs.declared.Started.the-variants.{Refused}
+use Rattle.relay.specs.Relay.{Tables, placesOf, ownOf, sharesOf, placed, standsAt, putBack, improper, stranger, short, lacksThree, lacking, Prepared, prepared, ready, freshMarks, freshTables, setUp, ordered, receivedAt, yielded, givenUpAt}
 use Rattle.relay.specs.Back.{put-same}
 use Rattle.good.specs.Places.{open-named, Moved, moved}
 use Rattle.good.specs.Fair.{Fair, room, fair-closed, fair-moved}
 use Rattle.good.specs.Leaves.{Leaves, ordered-leaves, yielded-leaves}
+
+-- a place as its parts made it; a free one is the closed record
+pub record Well (p : Place) : Type 0 where
+  pub made : Made p
+  pub free : p .used ≡ false → p ≡ closed
 
 pub record Good (n : ℕ) (s : Tables) : Type 0 where
   pub from : 1 ≤ n
@@ -26,7 +36,8 @@ pub record Good (n : ℕ) (s : Tables) : Type 0 where
   pub rows : finishedMost * n ≤ length (s .rows)
   pub marks : marksEach * n ≤ length (s .marks)
   pub stores : storeSize * n ≤ length (s .stores)
-  pub fair : Fair n (within n s)
+  pub fair : Fair n (placesOf n s)
+  pub well : (i : ℕ) → Well (getD (placesOf n s) i closed)
 
 -- ---- refusal 1: what it lets through, and that it lets every desk of good tables through
 pub below : (n desk : ℕ) → stranger n desk ≡ false → desk < n
@@ -50,15 +61,29 @@ pub no-lack : (n : ℕ) (s : Tables) → Good n s → lacking n s ≡ false
 unfolding short
 no-lack n s g = sym (no _ true (no-lack-three n s g) (sym (ge _ _ (g .stores))))
 
--- ---- set-up
+-- ---- set-up: it is ready exactly if n is 1 to 8 and all that is lent is long enough
+pub ready-exactly : (n : ℕ) (s : Tables) → Exactly (setUp n s .answer ≡ ready n) ((improper n or lacking n s) ≡ false)
+unfolding setUp _⇒_⁏_
+ready-exactly n s = (go (improper n or lacking n s), λ e. rw e)
+  where
+    go : (b : Bool) → (b ⇒ prepared s (Refused R.Desk) ⁏ prepared (freshTables n s) (ready n)) .answer ≡ ready n → b ≡ false
+    go true q = let z : _≡_ {A = ℕ} 0 1 = cc in absurd (omega arith)
+    go false q = refl
+
 pub front : (n : ℕ) (l : List Place) → n ≤ length l → take n (sets l 0 (replicate n closed)) ≡ replicate n closed
 front n l h =
     let k = length-replicate n closed in
     ap (take n) (sets-eq (replicate n closed) l 0 (omega arith)) ∙ take-at (replicate n closed) _ n k
 
-pub set-up-good : (n : ℕ) (s : Tables) → (improper n or lacking n s) ≡ false → Good n (setUp n s .tables)
+pub none-open : (k i : ℕ) → getD (replicate k closed) i closed ≡ closed
+none-open zero i = refl
+none-open (suc k) zero = refl
+none-open (suc k) (suc i) = none-open k i
+
+pub set-up-good : (n : ℕ) (s : Tables) → setUp n s .answer ≡ ready n → Good n (setUp n s .tables)
 unfolding setUp improper short
-set-up-good n s e =
+set-up-good n s q =
+    let e = ready-exactly n s .0 q in
     let a = or-none _ _ e in
     let b = or-none _ _ (a .0) in
     let c = or-none _ _ (a .1) in
@@ -66,7 +91,7 @@ set-up-good n s e =
     let two = or-none _ _ (three .1) in
     let z : n ≡ 0 → ⊥ = ne-of _ _ (b .0) in
     let p : placesEach * n ≤ length (s .places) = ge-of _ _ (three .0) in
-    subst (λ (m : Made). Good n (m .tables)) (no _ _ e refl)
+    subst (λ (m : Prepared). Good n (m .tables)) (no _ _ e refl)
     (record {
       from = omega arith;
       to = ge-of _ _ (b .1);
@@ -75,13 +100,22 @@ set-up-good n s e =
       marks = omega (arith, ge-of _ _ (two .1), length-sets (s .marks) 0 (freshMarks n));
       stores = omega (arith, ge-of _ _ (c .1), length-sets (s .stores) 0 (replicate (storeSize * n) 0));
       fair = rw (front (places n) (s .places) p) (fair-closed n (places n));
+      well = λ i. rw (front (places n) (s .places) p, none-open (places n) i) (record { made = closed-made; free = λ u. refl });
     })
+
+-- one place more, as its parts made it
+well-set : (l : List Place) (i : ℕ) (p : Place) → ((j : ℕ) → Well (getD l j closed)) → Well p → (j : ℕ) → Well (getD (set l i p) j closed)
+well-set [] i p h w j = h j
+well-set (y ∷ l) zero p h w zero = w
+well-set (y ∷ l) zero p h w (suc j) = h (suc j)
+well-set (y ∷ l) (suc i) p h w zero = h 0
+well-set (y ∷ l) (suc i) p h w (suc j) = well-set l i p (λ j. h (suc j)) w j
 
 -- ---- what a desk's call leaves, put back
 -- it fits: in the table nothing but the desk's sample of that time changes, and the lists are as long as the desk's parts
 pub record Fits (n : ℕ) (s : Tables) (desk time : ℕ) (o : Own) : Type 0 where
-  pub moved : Moved desk time (o .place) (within n s) (within n (putBack n s desk time o))
-  pub places : length (placed desk time (o .place) (within n s)) ≡ placesEach * n
+  pub moved : Moved desk time (o .place) (placesOf n s) (placesOf n (putBack n s desk time o))
+  pub places : length (placed desk time (o .place) (placesOf n s)) ≡ placesEach * n
   pub row : length (o .row) ≡ finishedMost
   pub marks : length (o .marks) ≡ marksEach
   pub store : length (o .store) ≡ storeSize
@@ -89,17 +123,17 @@ pub record Fits (n : ℕ) (s : Tables) (desk time : ℕ) (o : Own) : Type 0 wher
 module _ (n : ℕ) (s : Tables) (desk time : ℕ) where
   -- o is what a call with this output may leave of the desk's own things
   abbrev pub Left : (out : List ℕ) → Own → Type 0
-  Left out o = Leaves (sharesOf n desk (within n s)) (ownOf n s desk time out) desk time o
+  Left out o = Leaves (sharesOf n desk (placesOf n s)) (ownOf n s desk time out) desk time o
 
   module _ (out : List ℕ) (o : Own) (g : Good n s) (h : desk < n) (k : Left out o) where
     pub fits : Fits n s desk time o
     fits =
         let l = length-take-le (places n) (s .places) (g .places) in
-        let p = length-set (within n s) (standsAt desk time (o .place) (within n s)) (o .place) ∙ l in
+        let p = length-set (placesOf n s) (standsAt desk time (o .place) (placesOf n s)) (o .place) ∙ l in
         record {
           moved =
-              rw (take-at (placed desk time (o .place) (within n s)) (drop (places n) (s .places)) (places n) p)
-              (moved desk time (o .place) (within n s) (k .named) (λ u f. room n desk (within n s) (g .fair) (k .new u f) l h));
+              rw (take-at (placed desk time (o .place) (placesOf n s)) (drop (places n) (s .places)) (places n) p)
+              (moved desk time (o .place) (placesOf n s) (k .named) (λ u f. room n desk (placesOf n s) (g .fair) (k .new u f) l h));
           places = p;
           row = k .row ∙ length-cell finishedMost n desk (s .rows) (g .rows) h;
           marks = k .marks ∙ length-cell marksEach n desk (s .marks) (g .marks) h;
@@ -110,18 +144,23 @@ module _ (n : ℕ) (s : Tables) (desk time : ℕ) where
     put-good = record {
       from = g .from;
       to = g .to;
-      places = omega (arith, length-append (placed desk time (o .place) (within n s)) (drop (places n) (s .places)), fits .places);
+      places = omega (arith, length-append (placed desk time (o .place) (placesOf n s)) (drop (places n) (s .places)), fits .places);
       rows = omega (arith, g .rows, length-cells finishedMost n desk (s .rows) (g .rows) h (o .row) (fits .row));
       marks = omega (arith, g .marks, length-cells marksEach n desk (s .marks) (g .marks) h (o .marks) (fits .marks));
       stores = omega (arith, g .stores, length-cells storeSize n desk (s .stores) (g .stores) h (o .store) (fits .store));
-      fair = fair-moved n desk time (o .place) (within n s) _ (g .fair) h (fits .moved) (k .new);
+      fair = fair-moved n desk time (o .place) (placesOf n s) _ (g .fair) h (fits .moved) (k .new);
+      well =
+          rw (take-at (placed desk time (o .place) (placesOf n s)) (drop (places n) (s .places)) (places n) (fits .places))
+          (well-set (placesOf n s) (standsAt desk time (o .place) (placesOf n s)) (o .place) (g .well)
+          (record { made = k .made (g .well _ .made); free = k .named .free }));
     }
 
-  pub receive-left : (one : Bool) (rest out : List ℕ) → Left out (ordered one (sharesOf n desk (within n s)) (ownOf n s desk time out) desk time rest .own)
-  receive-left one rest out = ordered-leaves _ (ownOf n s desk time out) desk time (open-named desk time (within n s)) one rest
+  pub receive-left : (one : Bool) (rest out : List ℕ)
+      → Left out (ordered one (sharesOf n desk (placesOf n s)) (ownOf n s desk time out) desk time rest .own)
+  receive-left one rest out = ordered-leaves _ (ownOf n s desk time out) desk time (open-named desk time (placesOf n s)) one rest
 
   pub give-up-left : (one : Bool) → Left [] (yielded one (ownOf n s desk time []) time .own)
-  give-up-left one = yielded-leaves _ (ownOf n s desk time []) desk time (open-named desk time (within n s)) one
+  give-up-left one = yielded-leaves _ (ownOf n s desk time []) desk time (open-named desk time (placesOf n s)) one
 
   -- what holds of the tables, and of them with what a call may leave put back, holds after every call
   module _ (P : Tables → Type 0) (same : P s) where
@@ -130,7 +169,7 @@ module _ (n : ℕ) (s : Tables) (desk time : ℕ) where
     receive-each rest out put = go (stranger n desk or lacking n s) refl
       where
         go : (one : Bool) → (stranger n desk or lacking n s) ≡ one
-            → P (putBack n s desk time (ordered one (sharesOf n desk (within n s)) (ownOf n s desk time out) desk time rest .own))
+            → P (putBack n s desk time (ordered one (sharesOf n desk (placesOf n s)) (ownOf n s desk time out) desk time rest .own))
         go true e = subst P (sym (put-same n s desk time out)) same
         go false e = put (below n desk (or-none _ _ e .0)) _ (receive-left false rest out)
 

@@ -6,4 +6,3 @@ pub mod View
 pub mod Lifted
 pub mod Served
 pub mod Fresh
-pub mod Determined

@@ -22,7 +22,7 @@ use Rattle.desk.specs.declared.Shares.{Shares}
 use Rattle.desk.specs.declared.GivenUp.the-variants as G
 use Rattle.desk.specs.Desk.{Own, After, Given, finish, taken, received, givenUp}
 use Rattle.desk.specs.Effects.{Effect, stays, effects, progress}
-use Rattle.relay.specs.Relay.{Tables, within, ownOf, sharesOf, putBack, ordered, receivedAt, yielded, givenUpAt}
+use Rattle.relay.specs.Relay.{Tables, placesOf, ownOf, sharesOf, putBack, ordered, receivedAt, yielded, givenUpAt}
 use Rattle.relay.specs.Back.{put-same}
 
 -- ---- the effect of a refusal
@@ -36,7 +36,7 @@ module _ (n : ℕ) (s : Tables) (desk time : ℕ) (rest out : List ℕ) (r : Ref
   pub refused-stays : (numberOf r ≡ 10 → ⊥) → (receivedAt n s desk time rest out .tables ≡ s) × (receivedAt n s desk time rest out .out ≡ out)
   unfolding receivedAt
   refused-stays t =
-      let x = ordered-effect _ (sharesOf n desk (within n s)) (ownOf n s desk time out) desk time rest r e .1 t in
+      let x = ordered-effect _ (sharesOf n desk (placesOf n s)) (ownOf n s desk time out) desk time rest r e .1 t in
       (ap (putBack n s desk time) x ∙ put-same n s desk time out, ap (λ (o : Own). o .out) x)
 
   pub refused-frees : numberOf r ≡ 10
@@ -44,7 +44,7 @@ module _ (n : ℕ) (s : Tables) (desk time : ℕ) (rest out : List ℕ) (r : Ref
       × (receivedAt n s desk time rest out .out ≡ out)
   unfolding receivedAt
   refused-frees t =
-      let x = ordered-effect _ (sharesOf n desk (within n s)) (ownOf n s desk time out) desk time rest r e .0 t in
+      let x = ordered-effect _ (sharesOf n desk (placesOf n s)) (ownOf n s desk time out) desk time rest r e .0 t in
       (ap (putBack n s desk time) x, ap (λ (o : Own). o .out) x)
 
 -- ---- give-up: refused, all stays; else the place is freed and the time marked
@@ -102,4 +102,4 @@ ordered-progress one h s desk time rest =
 
 pub receive-progress : (n : ℕ) (s : Tables) (desk time : ℕ) (rest out : List ℕ) → Progress rest (receivedAt n s desk time rest out .answer)
 unfolding receivedAt
-receive-progress n s desk time rest out = ordered-progress _ (sharesOf n desk (within n s)) (ownOf n s desk time out) desk time rest
+receive-progress n s desk time rest out = ordered-progress _ (sharesOf n desk (placesOf n s)) (ownOf n s desk time out) desk time rest

@@ -26,7 +26,7 @@ use Rattle.desk.specs.declared.Shares.{Shares}
 use Rattle.desk.specs.Desk.{Own, After, wholeTaken, six, usedUp, completed, joining, descriptionTaken, taken, received}
 use Rattle.desk.specs.Effects.{asksPart, asks}
 use Rattle.table.specs.Table.{mine}
-use Rattle.relay.specs.Relay.{Tables, within, ownOf, sharesOf, stranger, lacking, ordered, receivedAt}
+use Rattle.relay.specs.Relay.{Tables, placesOf, ownOf, sharesOf, stranger, lacking, ordered, receivedAt}
 use Rattle.good.specs.Fair.{Passed}
 
 -- neither 8 nor 9
@@ -36,8 +36,8 @@ Serves x = (r : Refusal) → x ≡ O.Refused r → (numberOf r ≢ 8) × (number
 other : (r : Refusal) → (numberOf r ≢ 8) × (numberOf r ≢ 9) → Serves (O.Refused r)
 other r k r' e = let q : numberOf r ≡ numberOf r' = cc in rw (← q) k
 
-told : (x : Outcome) → kindOf x < 7 → Serves x
-told x k r e = absurd (omega (arith, ap kindOf e))
+no-refusal : (x : Outcome) → kindOf x < 7 → Serves x
+no-refusal x k r e = absurd (omega (arith, ap kindOf e))
 
 abbrev Served : After → Type 0
 Served a = Serves (a .answer .outcome)
@@ -57,23 +57,23 @@ not-used-up p h k =
 completed-served : (s : Own) (time used next : ℕ) (q : Place) → Served (completed s time used next q)
 unfolding completed
 completed-served s time used next q =
-    each Served _ _ _ (λ e. told _ (omega arith))
-    (λ e. each Served _ _ _ (λ e. told _ (omega arith)) (λ e. other R.Spoiled (omega arith)))
+    each Served _ _ _ (λ e. no-refusal _ (omega arith))
+    (λ e. each Served _ _ _ (λ e. no-refusal _ (omega arith)) (λ e. other R.Spoiled (omega arith)))
 
 taken-served : (h : Shares) (s : Own) (desk time used : ℕ) (rest : List ℕ) (x : Unit) → (asks s desk time rest x ≡ true → Passed h) → Known x
     → Served (taken h s desk time used rest x)
 unfolding wholeTaken asksPart joining descriptionTaken noted
-taken-served h s desk time used rest End k w = told O.End (omega arith)
-taken-served h s desk time used rest (Skipped t) k w = told (O.Skipped t) (omega arith)
+taken-served h s desk time used rest End k w = no-refusal O.End (omega arith)
+taken-served h s desk time used rest (Skipped t) k w = no-refusal (O.Skipped t) (omega arith)
 taken-served h s desk time used rest (Refused r) k w =
     other r (⊎-elim (λ e. omega (arith, ap numberOf e)) (λ e. omega (arith, ap numberOf e)) w)
 taken-served h s desk time used rest (Whole x) k w =
     each Served _ _ _ (λ e. other R.Late (omega arith))
     (λ e. each Served _ _ _ (λ e. other R.Conflict (omega arith))
-    (λ e. each Served _ _ _ (λ e. other R.Size (omega arith)) (λ e. told _ (omega arith))))
+    (λ e. each Served _ _ _ (λ e. other R.Size (omega arith)) (λ e. no-refusal _ (omega arith))))
 taken-served h s desk time used rest (Part x) k w =
     each Served _ _ _ (λ e. other R.Late (omega arith))
-    (λ f₁. each Served _ _ _ (λ e. told O.Repeat (omega arith))
+    (λ f₁. each Served _ _ _ (λ e. no-refusal O.Repeat (omega arith))
     (λ f₂. each Served _ _ _ (λ e. other R.Conflict (omega arith))
     (λ f₃. each Served _ _ _ (λ e. other R.Size (omega arith))
     (λ f₄.
@@ -84,8 +84,8 @@ taken-served h s desk time used rest (Part x) k w =
 taken-served h s desk time used rest (Description x) k w =
     each N _ _ _ (λ e. other R.Fields (omega arith))
     (λ e. each N _ _ _ (λ e. other R.Size (omega arith))
-    (λ e. each N _ _ _ (λ e. told O.Repeat (omega arith))
-    (λ e. each N _ _ _ (λ e. other R.Conflict (omega arith)) (λ e. told O.Described (omega arith)))))
+    (λ e. each N _ _ _ (λ e. no-refusal O.Repeat (omega arith))
+    (λ e. each N _ _ _ (λ e. other R.Conflict (omega arith)) (λ e. no-refusal O.Described (omega arith)))))
   where
     N : S.After → Type 0
     N a = Serves (a .answer .outcome)
@@ -93,16 +93,16 @@ taken-served h s desk time used rest (Description x) k w =
 -- a call that does not reach the test of the shares, or that they let through, is answered neither 8 nor 9
 pub let-through : (n : ℕ) (s : Tables) (desk time : ℕ) (rest out : List ℕ)
     → ((stranger n desk or lacking n s) ≡ false → (length out <? sampleMost) ≡ false
-    → asks (ownOf n s desk time out) desk time rest (readOf rest .unit) ≡ true → Passed (sharesOf n desk (within n s)))
+    → asks (ownOf n s desk time out) desk time rest (readOf rest .unit) ≡ true → Passed (sharesOf n desk (placesOf n s)))
     → Serves (receivedAt n s desk time rest out .answer .outcome)
 unfolding receivedAt ordered received
 let-through n s desk time rest out k =
     each Served _ _ _ (λ e. other R.Desk (omega arith))
     (λ a. each Served _ _ _ (λ e. other R.Output (omega arith))
     (λ b.
-    taken-served (sharesOf n desk (within n s)) (ownOf n s desk time out) desk time (readOf rest .used) rest (readOf rest .unit) (k a b)
+    taken-served (sharesOf n desk (placesOf n s)) (ownOf n s desk time out) desk time (readOf rest .used) rest (readOf rest .unit) (k a b)
     (reads-known rest)))
 
-pub served : (n : ℕ) (s : Tables) (desk time : ℕ) (rest out : List ℕ) → count (mine desk) (within n s) < ownPlaces
+pub served : (n : ℕ) (s : Tables) (desk time : ℕ) (rest out : List ℕ) → count (mine desk) (placesOf n s) < ownPlaces
     → Serves (receivedAt n s desk time rest out .answer .outcome)
 served n s desk time rest out k = let-through n s desk time rest out (λ a b c. record { below = omega arith; share = inl k })

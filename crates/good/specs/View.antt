@@ -9,17 +9,16 @@ use mathlib.Core.List.{List, []}
 use lib.ListN.{length, drop, replicate, length-replicate}
 use lib.Seq.{drop-at}
 use Rattle.laws.specs.Rows.{_⇒_⁏_, _=?_, each, yes, no, ge, eq, eq-of, ne-of}
-use Rattle.laws.specs.Region.{cell-same, cell-other, cells-beyond}
+use Rattle.laws.specs.Region.{cell-same, cell-other, cells-beyond, drop-sets-past}
 use Rattle.laws.specs.Table.{bit, count}
 use Rattle.paper.specs.Limits.{finishedMost, placesEach, marksEach, storeSize, places}
 use Rattle.sample.specs.declared.Place.{Place}
 use Rattle.sample.specs.Place.{closed}
-use Rattle.style.specs.Puts.{drop-sets-past}
 use Rattle.style.specs.Shown.{shown}
 use Rattle.desk.specs.declared.Shares.{Shares}
 use Rattle.desk.specs.Desk.{Own, After, Given, own, newestOf}
 use Rattle.table.specs.Table.{mine}
-use Rattle.relay.specs.Relay.{Tables, within, rowOf, marksOf, storeOf, openAt, sharesOf, placed, putBack, short, Made, freshMarks, setUp, ordered, Done, settled, receivedAt, yielded, Released, returned, givenUpAt, lookedUp}
+use Rattle.relay.specs.Relay.{Tables, placesOf, rowOf, marksOf, storeOf, openAt, sharesOf, placed, putBack, short, Prepared, freshMarks, setUp, ordered, Done, settled, receivedAt, yielded, Released, returned, givenUpAt, lookedUp}
 use Rattle.good.specs.Places.{Moved}
 use Rattle.good.specs.Good.{Good, no-stranger, no-lack, no-lack-three, Left, Fits, fits, receive-left, give-up-left, receive-each, give-up-each}
 
@@ -33,8 +32,8 @@ pub record View : Type 0 where
 
 abbrev pub view : (n desk : ℕ) → Tables → View
 view n desk s = record {
-  at = λ time. openAt desk time (within n s);
-  opens = count (mine desk) (within n s);
+  at = λ time. openAt desk time (placesOf n s);
+  opens = count (mine desk) (placesOf n s);
   row = rowOf desk (s .rows);
   marks = marksOf desk (s .marks);
   store = storeOf desk (s .stores);
@@ -72,13 +71,13 @@ module _ (n : ℕ) (s : Tables) (desk time : ℕ) (out : List ℕ) (o : Own) (g 
   f : Fits n s desk time o
   f = fits n s desk time out o g h k
 
-  m : Moved desk time (o .place) (within n s) (within n (putBack n s desk time o))
+  m : Moved desk time (o .place) (placesOf n s) (placesOf n (putBack n s desk time o))
   m = f .moved
 
   put-own : view n desk (putBack n s desk time o) ≡ seenAfter (view n desk s) time o
   put-own =
       same-view _ _
-      (λ u. each (λ (p : Place). openAt desk u (within n (putBack n s desk time o)) ≡ p) (u =? time) (o .place) (openAt desk u (within n s))
+      (λ u. each (λ (p : Place). openAt desk u (placesOf n (putBack n s desk time o)) ≡ p) (u =? time) (o .place) (openAt desk u (placesOf n s))
       (λ e. rw (eq-of u time e) (m .own-open (g .fair .once desk time)))
       (λ e. m .other-open desk u (λ a. ne-of _ _ e)))
       (omega (arith, m .own-mine)) (cell-same finishedMost n desk (s .rows) (g .rows) h (o .row) (f .row))
@@ -94,7 +93,7 @@ module _ (n : ℕ) (s : Tables) (desk time : ℕ) (out : List ℕ) (o : Own) (g 
 
   put-beyond : Beyond n s (putBack n s desk time o)
   put-beyond = record {
-    places = drop-at (placed desk time (o .place) (within n s)) (drop (places n) (s .places)) (places n) (f .places);
+    places = drop-at (placed desk time (o .place) (placesOf n s)) (drop (places n) (s .places)) (places n) (f .places);
     rows = cells-beyond finishedMost n desk (s .rows) (g .rows) h (o .row) (f .row);
     marks = cells-beyond marksEach n desk (s .marks) (g .marks) h (o .marks) (f .marks);
     stores = cells-beyond storeSize n desk (s .stores) (g .stores) h (o .store) (f .store);
@@ -125,7 +124,7 @@ fresh-length (suc n) = omega (arith, fresh-length n)
 pub set-up-beyond : (n : ℕ) (s : Tables) → Beyond n s (setUp n s .tables)
 unfolding setUp
 set-up-beyond n s =
-    each (λ (m : Made). Beyond n s (m .tables)) _ _ _ (λ e. unchanged n s)
+    each (λ (m : Prepared). Beyond n s (m .tables)) _ _ _ (λ e. unchanged n s)
     (λ e. record {
       places = drop-sets-past (replicate (places n) closed) (s .places) 0 (places n) (omega (arith, length-replicate (places n) closed));
       rows = drop-sets-past (replicate (finishedMost * n) 0) (s .rows) 0 (finishedMost * n) (omega (arith, length-replicate {A = ℕ} (finishedMost * n) 0));
@@ -144,21 +143,21 @@ givesUp v time = yielded false (ownIn v time []) time
 
 module _ (n : ℕ) (s : Tables) (g : Good n s) (desk : ℕ) (h : desk < n) where
   module _ (time : ℕ) (rest out : List ℕ) where
-    pub receive-is : receivedAt n s desk time rest out ≡ settled n s desk time (receives (sharesOf n desk (within n s)) (view n desk s) desk time rest out)
+    pub receive-is : receivedAt n s desk time rest out ≡ settled n s desk time (receives (sharesOf n desk (placesOf n s)) (view n desk s) desk time rest out)
     unfolding receivedAt
     receive-is =
-        ap (λ (one : Bool). settled n s desk time (ordered one (sharesOf n desk (within n s)) (ownIn (view n desk s) time out) desk time rest))
+        ap (λ (one : Bool). settled n s desk time (ordered one (sharesOf n desk (placesOf n s)) (ownIn (view n desk s) time out) desk time rest))
         (sym (no _ true (no-stranger n desk s g h) (sym (no-lack n s g))))
 
     pub receive-own : view n desk (receivedAt n s desk time rest out .tables)
-        ≡ seenAfter (view n desk s) time (receives (sharesOf n desk (within n s)) (view n desk s) desk time rest out .own)
+        ≡ seenAfter (view n desk s) time (receives (sharesOf n desk (placesOf n s)) (view n desk s) desk time rest out .own)
     receive-own =
         ap (λ (r : Done). view n desk (r .tables)) receive-is
         ∙ put-own n s desk time out _ g h (receive-left n s desk time false rest out)
 
     -- the sample as the call leaves it stands in the table: what is kept is never lost for want of a place
-    pub receive-stands : openAt desk time (within n (receivedAt n s desk time rest out .tables))
-        ≡ receives (sharesOf n desk (within n s)) (view n desk s) desk time rest out .own .place
+    pub receive-stands : openAt desk time (placesOf n (receivedAt n s desk time rest out .tables))
+        ≡ receives (sharesOf n desk (placesOf n s)) (view n desk s) desk time rest out .own .place
     receive-stands = ap (λ (v : View). v .at time) receive-own ∙ sym (yes _ _ (eq time time refl) refl)
 
   pub give-up-is : (time : ℕ) → givenUpAt n s desk time ≡ returned n s desk time (givesUp (view n desk s) time)

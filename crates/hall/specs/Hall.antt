@@ -1,6 +1,6 @@
 -- A relay with all its memory in one value, and what a call leaves of it. Assumes nothing.
 use lib.ListN.{replicate}
-use Rattle.paper.specs.Limits.{placesMost}
+use Rattle.paper.specs.Limits.{placesMost, rowsMost, marksMost, storesMost}
 use Rattle.sample.specs.Place.{closed}
 use Rattle.relay.specs.declared.Relay.{Relay}
 use Rattle.relay.specs.declared.Started.{Started}
@@ -15,7 +15,7 @@ tablesOf h = tables (h .places) (h .rows) (h .marks) (h .stores)
 
 -- memory as it is lent to set-up, with something in it
 abbrev pub lent : Tables
-lent = tables (replicate placesMost closed) (replicate 128 7) (replicate 16 7) (replicate 133120 7)
+lent = tables (replicate placesMost closed) (replicate rowsMost 7) (replicate marksMost 7) (replicate storesMost 7)
 
 -- a relay that set-up refused has no desk
 abbrev pub relayOf : Started → Relay

@@ -1,21 +1,27 @@
 // A relay with its memory for eight desks in one value, for programs.
 use desk::GivenUp;
 use paper::Answer;
+use paper::limits::MARKS_MOST;
 use paper::limits::PLACES_MOST;
+use paper::limits::ROWS_MOST;
+use paper::limits::SAMPLE_MOST;
+use paper::limits::STORES_MOST;
 use relay::Relay;
 use relay::Started;
 use sample::Place;
 ghost use mathlib.Core.Path.{_≡_};
+ghost use lib.ListN.{replicate};
+ghost use Rattle.paper.specs.Limits.{sampleMost};
 ghost use Rattle.relay.specs.Relay.{setUp, receivedAt, givenUpAt};
 ghost use Rattle.hall.specs.Hall.{tablesOf, lent, relayOf, heard, freed};
 
 pub struct Hall {
     pub relay: Relay,
     pub places: [Place; PLACES_MOST],
-    pub rows: [u32; 128],
-    pub marks: [u32; 16],
-    pub stores: [u8; 133120],
-    pub out: [u8; 1024],
+    pub rows: [u32; ROWS_MOST],
+    pub marks: [u32; MARKS_MOST],
+    pub stores: [u8; STORES_MOST],
+    pub out: [u8; SAMPLE_MOST],
 }
 
 pub struct Heard {
@@ -39,12 +45,12 @@ fn relay_of(answer: Started) -> Relay
 
 // A relay for n desks, set up in memory that holds something else.
 pub fn set_up(n: usize) -> Hall
-    ensures { λ r. ⌜ (tablesOf r ≡ setUp n lent .tables) × (r .relay ≡ relayOf (setUp n lent .answer)) ⌝ }
+    ensures { λ r. ⌜ (tablesOf r ≡ setUp n lent .tables) × (r .relay ≡ relayOf (setUp n lent .answer)) × (r .out ≡ replicate sampleMost 0) ⌝ }
 {
     let places = [sample::closed(); PLACES_MOST];
-    let mut rows = [7u32; 128];
-    let mut marks = [7u32; 16];
-    let mut stores = [7u8; 133120];
+    let mut rows = [7u32; ROWS_MOST];
+    let mut marks = [7u32; MARKS_MOST];
+    let mut stores = [7u8; STORES_MOST];
     let r = held::set_up(n, places, &mut rows, &mut marks, &mut stores);
     let after = r.places;
     let answer = r.answer;
@@ -54,7 +60,7 @@ pub fn set_up(n: usize) -> Hall
         rows,
         marks,
         stores,
-        out: [0u8; 1024],
+        out: [0u8; SAMPLE_MOST],
     }
 }
 
@@ -96,7 +102,7 @@ pub fn receive(h: Hall, desk: usize, time: u32, rest: &[u8]) -> Heard
 
 // A desk gives its sample of a time up.
 pub fn give_up(h: Hall, desk: usize, time: u32) -> Freed
-    ensures { λ r. ⌜ (freed r ≡ givenUpAt (h .relay .desks) (tablesOf h) desk time) × (r .hall .relay ≡ h .relay) ⌝ }
+    ensures { λ r. ⌜ (freed r ≡ givenUpAt (h .relay .desks) (tablesOf h) desk time) × (r .hall .relay ≡ h .relay) × (r .hall .out ≡ h .out) ⌝ }
 {
     let relay = h.relay;
     let places = h.places;

@@ -9,7 +9,7 @@ use sample::Place;
 ghost use mathlib.Core.Path.{_≡_};
 ghost use mathlib.Core.List.{List};
 ghost use Prim.Native.Nat.{ℕ};
-ghost use Rattle.relay.specs.Relay.{tables, made, setUp, done, receivedAt, released, givenUpAt};
+ghost use Rattle.relay.specs.Relay.{tables, prepared, setUp, done, receivedAt, released, givenUpAt};
 ghost use Rattle.held.specs.Held.{begun, called, yielded};
 
 pub struct Begun {
@@ -52,7 +52,7 @@ pub fn set_up(
     marks: &mut [u32],
     stores: &mut [u8],
 ) -> Begun
-    ensures { λ r. ⌜ made (tables (r .places) (now (rows .exit)) (now (marks .exit)) (now (stores .exit))) (r .answer) ≡ setUp n (tables places (now (rows .entry)) (now (marks .entry)) (now (stores .entry))) ⌝ }
+    ensures { λ r. ⌜ prepared (tables (r .places) (now (rows .exit)) (now (marks .exit)) (now (stores .exit))) (r .answer) ≡ setUp n (tables places (now (rows .entry)) (now (marks .entry)) (now (stores .entry))) ⌝ }
 {
     let mut t = places;
     let answer = relay::set_up(n, &mut t, rows, marks, stores);

@@ -1,6 +1,6 @@
 -- The decimal digits of a number, in ASCII: the last is that of n % 10, and the digits of n / 10 stand before it, where that is not 0.
 -- Assumes nothing.
-use Prim.Native.Nat.{ℕ, zero, suc, _+_, _-_, _*_, _/_, _%_, _^_, _<_, _≤_}
+use Prim.Native.Nat.{ℕ, zero, suc, _+_, _*_, _/_, _%_, _^_, _<_, _≤_}
 use native.Mathlib.Omega.{arith}
 use native.Mathlib.Nat.{pow-suc}
 use mathlib.Core.Bool.{Bool, true, false}
@@ -9,10 +9,14 @@ use mathlib.Core.List.{List, [], _∷_, _++_}
 use lib.ListN.{length, length-append}
 use Rattle.laws.specs.Rows.{_⇒_⁏_, _<?_, yes, no, lt, ge, lt-of, ge-of, below}
 
+-- `0`
+abbrev pub digitZero : ℕ
+digitZero = 0x30
+
 -- `turns` bounds how often n is divided by ten; n itself is always enough
 unfoldable pub digitsIn : (turns n : ℕ) → List ℕ
-digitsIn zero n = (48 + n) ∷ []
-digitsIn (suc k) n = n <? 10 ⇒ (48 + n) ∷ [] ⁏ digitsIn k (n / 10) ++ ((48 + n % 10) ∷ [])
+digitsIn zero n = (digitZero + n) ∷ []
+digitsIn (suc k) n = n <? 10 ⇒ (digitZero + n) ∷ [] ⁏ digitsIn k (n / 10) ++ ((digitZero + n % 10) ∷ [])
 
 unfoldable pub digits : ℕ → List ℕ
 digits n = digitsIn n n
@@ -26,19 +30,19 @@ turns-any (suc j) zero n h i = sym (yes _ _ (lt _ _ (omega arith)) refl)
 turns-any (suc j) (suc k) n h i =
     below _ _ _ _ (λ f.
     let t = ge-of n 10 f in
-    ap (λ (l : List ℕ). l ++ ((48 + n % 10) ∷ [])) (turns-any j k (n / 10) (omega arith) (omega arith)))
+    ap (λ (l : List ℕ). l ++ ((digitZero + n % 10) ∷ [])) (turns-any j k (n / 10) (omega arith) (omega arith)))
 
-pub digits-one : (n : ℕ) → n < 10 → digits n ≡ (48 + n) ∷ []
+pub digits-one : (n : ℕ) → n < 10 → digits n ≡ (digitZero + n) ∷ []
 unfolding digits digitsIn
 digits-one zero h = refl
 digits-one (suc n) h = sym (yes _ _ (lt _ _ h) refl)
 
-pub digits-more : (n : ℕ) → 10 ≤ n → digits n ≡ digits (n / 10) ++ ((48 + n % 10) ∷ [])
+pub digits-more : (n : ℕ) → 10 ≤ n → digits n ≡ digits (n / 10) ++ ((digitZero + n % 10) ∷ [])
 unfolding digits digitsIn
 digits-more zero h = absurd (omega arith)
 digits-more (suc n) h =
     sym (no _ _ (ge _ _ h)
-    (ap (λ (l : List ℕ). l ++ ((48 + suc n % 10) ∷ [])) (turns-any (suc n / 10) n (suc n / 10) (omega arith) (omega arith))))
+    (ap (λ (l : List ℕ). l ++ ((digitZero + suc n % 10) ∷ [])) (turns-any (suc n / 10) n (suc n / 10) (omega arith) (omega arith))))
 
 -- what holds below ten, and of n wherever it holds of n / 10, holds of every number
 module _ (P : ℕ → Type 0) (one : (n : ℕ) → n < 10 → P n) (more : (n : ℕ) → 10 ≤ n → P (n / 10) → P n) where
@@ -52,26 +56,6 @@ module _ (P : ℕ → Type 0) (one : (n : ℕ) → n < 10 → P n) (more : (n : 
 
   pub by-tenth : (n : ℕ) → P n
   by-tenth n = by-turns n n (omega arith)
-
--- ---- the digits read back, as a decimal number behind the digits of `high`
-unfoldable pub valueOn : (high : ℕ) → List ℕ → ℕ
-valueOn high [] = high
-valueOn high (d ∷ ds) = valueOn (high * 10 + (d - 48)) ds
-
-value-last : (high d : ℕ) (ds : List ℕ) → valueOn high (ds ++ (d ∷ [])) ≡ valueOn high ds * 10 + (d - 48)
-unfolding valueOn
-value-last high d [] = refl
-value-last high d (e ∷ ds) = value-last (high * 10 + (e - 48)) d ds
-
-value-one : (n : ℕ) → n < 10 → valueOn 0 (digits n) ≡ n
-unfolding valueOn
-value-one n h = rw (digits-one n h) (omega arith)
-
-value-more : (n : ℕ) → 10 ≤ n → valueOn 0 (digits (n / 10)) ≡ n / 10 → valueOn 0 (digits n) ≡ n
-value-more n h e = rw (digits-more n h, value-last 0 (48 + n % 10) (digits (n / 10)), e) (omega arith)
-
-pub value-digits : (n : ℕ) → valueOn 0 (digits n) ≡ n
-value-digits = by-tenth (λ n. valueOn 0 (digits n) ≡ n) value-one value-more
 
 -- ---- a number below 10 ^ (k + 1) has at most k + 1 digits
 abbrev Short : ℕ → Type 0

@@ -1,3 +1,5 @@
+pub mod Words
 pub mod Digits
+pub mod Decimal
+pub mod Typed
 pub mod Line
-pub mod Written

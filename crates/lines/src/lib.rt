@@ -4,12 +4,12 @@ use paper::Outcome;
 ghost use mathlib.Core.Path.{_≡_};
 ghost use mathlib.Core.List.{[], _∷_, _++_};
 ghost use Prim.Native.Nat.{_+_, _<_};
-ghost use Rattle.lines.specs.Digits.{digits};
+ghost use Rattle.lines.specs.Digits.{digitZero, digits};
 ghost use Rattle.lines.specs.Line.{outcomeText, lineOf};
-ghost use Rattle.lines.specs.Written.{laid, written};
+ghost use Rattle.lines.specs.Typed.{page, typed};
 
 pub fn put_text(out: &mut [u8], at: usize, text: &[u8]) -> usize
-    ensures { λ r. ⌜ laid (now (out .exit)) r ≡ written (now (out .entry)) at (now (text .entry)) ⌝ }
+    ensures { λ r. ⌜ page (now (out .exit)) r ≡ typed (now (out .entry)) at (now (text .entry)) ⌝ }
 {
     octets::put(out, at, text);
     let from = octets::least(at, out.len());
@@ -18,13 +18,13 @@ pub fn put_text(out: &mut [u8], at: usize, text: &[u8]) -> usize
 
 fn put_digit(out: &mut [u8], at: usize, d: usize) -> usize
     requires { ⌜ d < 10 ⌝ }
-    ensures { λ r. ⌜ laid (now (out .exit)) r ≡ written (now (out .entry)) at ((48 + d) ∷ []) ⌝ }
+    ensures { λ r. ⌜ page (now (out .exit)) r ≡ typed (now (out .entry)) at ((digitZero + d) ∷ []) ⌝ }
 {
-    put_text(out, at, &[(48 + d) as u8])
+    put_text(out, at, &[(0x30 + d) as u8])
 }
 
 pub fn put_number(out: &mut [u8], at: usize, n: usize) -> usize
-    ensures { λ r. ⌜ laid (now (out .exit)) r ≡ written (now (out .entry)) at (digits n) ⌝ }
+    ensures { λ r. ⌜ page (now (out .exit)) r ≡ typed (now (out .entry)) at (digits n) ⌝ }
 {
     if n < 10 {
         return put_digit(out, at, n);
@@ -35,14 +35,14 @@ pub fn put_number(out: &mut [u8], at: usize, n: usize) -> usize
 
 // A word, and a number behind it.
 fn put_count(out: &mut [u8], at: usize, word: &[u8], n: usize) -> usize
-    ensures { λ r. ⌜ laid (now (out .exit)) r ≡ written (now (out .entry)) at (now (word .entry) ++ digits n) ⌝ }
+    ensures { λ r. ⌜ page (now (out .exit)) r ≡ typed (now (out .entry)) at (now (word .entry) ++ digits n) ⌝ }
 {
     let next = put_text(out, at, word);
     put_number(out, next, n)
 }
 
 fn put_outcome(out: &mut [u8], at: usize, outcome: Outcome) -> usize
-    ensures { λ r. ⌜ laid (now (out .exit)) r ≡ written (now (out .entry)) at (outcomeText outcome) ⌝ }
+    ensures { λ r. ⌜ page (now (out .exit)) r ≡ typed (now (out .entry)) at (outcomeText outcome) ⌝ }
 {
     match outcome {
         Outcome::End => put_text(out, at, b"end"),
@@ -58,7 +58,7 @@ fn put_outcome(out: &mut [u8], at: usize, outcome: Outcome) -> usize
 
 // The line of one unit: where it stands in the payload, the time it is read at, and what was answered.
 pub fn put_line(out: &mut [u8], at: usize, place: usize, time: u32, answer: Answer) -> usize
-    ensures { λ r. ⌜ laid (now (out .exit)) r ≡ written (now (out .entry)) at (lineOf place time answer) ⌝ }
+    ensures { λ r. ⌜ page (now (out .exit)) r ≡ typed (now (out .entry)) at (lineOf place time answer) ⌝ }
 {
     let outcome = answer.outcome;
     let next = put_count(out, at, b"at ", place);

@@ -1,11 +1,12 @@
 -- The listing of one payload: document 01, 'Worked by hand'. Assumes nothing.
 use Prim.Native.Nat.{ℕ, zero, suc, _+_}
-use mathlib.Core.List.{List, [], _∷_, _++_}
+use mathlib.Core.List.{List, _++_}
 use lib.ListN.{length, drop, replicate}
 use Rattle.laws.specs.Rows.{_⇒_⁏_, _<?_, _=?_}
 use Rattle.paper.specs.Limits.{sampleMost, placesMost, finishedMost, marksEach, storeSize}
 use Rattle.sample.specs.Place.{closed}
 use Rattle.relay.specs.Relay.{Tables, Done, tables, setUp, receivedAt}
+use Rattle.lines.specs.Words.{wordEnd, wordTooLong, newLine}
 use Rattle.lines.specs.Line.{lineOf}
 
 -- the longest payload that is listed
@@ -14,10 +15,10 @@ payloadMost = 4096
 
 -- `end` and `too long`, each with its new line
 abbrev pub endLine : List ℕ
-endLine = 101 ∷ 110 ∷ 100 ∷ 10 ∷ []
+endLine = wordEnd ++ newLine
 
 abbrev pub tooLong : List ℕ
-tooLong = 116 ∷ 111 ∷ 111 ∷ 32 ∷ 108 ∷ 111 ∷ 110 ∷ 103 ∷ 10 ∷ []
+tooLong = wordTooLong ++ newLine
 
 -- what set-up makes for one desk of memory that is blank
 unfoldable pub blank : Tables

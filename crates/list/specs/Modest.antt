@@ -10,7 +10,6 @@ use Rattle.laws.specs.Rows.{_⇒_⁏_, _and_, each, eq-of, ge-of, and-of, or-no
 use Rattle.paper.specs.Limits.{sampleMost}
 use Rattle.paper.specs.declared.Outcome.{Outcome}
 use Rattle.paper.specs.declared.Outcome.the-variants as O
-use Rattle.octets.specs.Be.{u8At}
 use Rattle.unit.specs.declared.Whole as W
 use Rattle.unit.specs.declared.Part as P
 use Rattle.unit.specs.declared.Description as D
@@ -35,20 +34,20 @@ Slight (Whole w) = Prim.Unit {0}
 Slight (Part x) = x .total < 16
 Slight (Description w) = Prim.Unit {0}
 
-fields-slight : (s : List ℕ) (U TYPE LEN : ℕ) → u8At s 3 < 256 → TYPE < 8 → Slight (fieldsOf s U TYPE LEN)
+fields-slight : (s : List ℕ) (U TYPE LEN : ℕ) → TYPE < 8 → Slight (fieldsOf s U TYPE LEN)
 unfolding fieldsOf
-fields-slight s U TYPE LEN b t =
+fields-slight s U TYPE LEN t =
     each Slight _ _ _ (λ q. tt)
     (λ q. each Slight _ _ _ (λ q. omega arith)
     (λ q. each Slight _ _ _ (λ q. omega arith)
     (λ q. each Slight _ _ _ (λ q. omega arith) (λ q. each Slight _ _ _ (λ q. tt) (λ q. t)))))
 
-reads-slight : (s : List ℕ) → u8At s 3 < 256 → Slight (readOf s .unit)
+reads-slight : (s : List ℕ) → Slight (readOf s .unit)
 unfolding readOf judged
-reads-slight s b =
+reads-slight s =
     each (λ (r : Reading). Slight (r .unit)) _ _ _ (λ q. tt)
     (λ q. each (λ (r : Reading). Slight (r .unit)) _ _ _ (λ q. tt)
-    (λ q. each Slight _ _ _ (λ q. tt) (λ q. each Slight _ _ _ (λ q. tt) (λ q. fields-slight s _ _ _ b (omega arith)))))
+    (λ q. each Slight _ _ _ (λ q. tt) (λ q. each Slight _ _ _ (λ q. tt) (λ q. fields-slight s _ _ _ (omega arith)))))
 
 pub reads-far : (s : List ℕ) → 0 < length s → (3 ≤ readOf s .used) ⊎ (readOf s .used ≡ length s)
 unfolding readOf broken
@@ -71,7 +70,6 @@ Brief (O.Skipped t) = t < 8
 Brief (O.Refused r) = Prim.Unit {0}
 
 pub record Modest (used : ℕ) (a : After) : Type 0 where
-  pub place : a .own .place .slen ≤ sampleMost
   pub next : a .answer .next < 4294967296
   pub uses : a .answer .used ≡ used
   pub words : Brief (a .answer .outcome)
@@ -79,10 +77,10 @@ pub record Modest (used : ℕ) (a : After) : Type 0 where
 whole-modest : (s : Own) (time used : ℕ) (w : W.Whole) (d : List ℕ) → s .place .slen ≤ sampleMost → Modest used (wholeTaken s time used w d)
 unfolding wholeTaken
 whole-modest s time used w d h =
-    each (Modest used) _ _ _ (λ q. record { place = h; next = omega arith; uses = refl; words = tt })
-    (λ q. each (Modest used) _ _ _ (λ q. record { place = h; next = omega arith; uses = refl; words = tt })
-    (λ q. each (Modest used) _ _ _ (λ q. record { place = h; next = omega arith; uses = refl; words = tt })
-    (λ q. record { place = h; next = omega arith; uses = refl; words = ge-of _ _ q })))
+    each (Modest used) _ _ _ (λ q. record { next = omega arith; uses = refl; words = tt })
+    (λ q. each (Modest used) _ _ _ (λ q. record { next = omega arith; uses = refl; words = tt })
+    (λ q. each (Modest used) _ _ _ (λ q. record { next = omega arith; uses = refl; words = tt })
+    (λ q. record { next = omega arith; uses = refl; words = ge-of _ _ q })))
 
 -- ---- parts: a place's SLEN was told by a part that 5 let through, and its TOTAL is that of the part
 both : (a b : Bool) → a ≡ true → (a and b) ≡ false → b ≡ false
@@ -109,21 +107,21 @@ completed-modest : (s : Own) (time used next : ℕ) (q : Place) → next < 42949
     → Modest used (completed s time used next q)
 unfolding completed missing bare
 completed-modest s time used next q n h t =
-    each (Modest used) _ _ _ (λ k. record { place = h; next = n; uses = refl; words = omega arith })
+    each (Modest used) _ _ _ (λ k. record { next = n; uses = refl; words = omega arith })
     (λ k. each (Modest used) _ _ _
-    (λ k. record { place = omega arith; next = n; uses = refl; words = omega (arith, sound-of (q .slen) (piecesOf q) k .1) })
-    (λ k. record { place = omega arith; next = n; uses = refl; words = tt }))
+    (λ k. record { next = n; uses = refl; words = omega (arith, sound-of (q .slen) (piecesOf q) k .1) })
+    (λ k. record { next = n; uses = refl; words = tt }))
 
 joining-modest : (g : Shares) (s : Own) (time used next : ℕ) (q : Place) (x : P.Part) (d : List ℕ) → s .place .slen ≤ sampleMost
     → next < 4294967296 → q .slen ≤ sampleMost → x .total < 16 → Modest used (joining g s time used next q x d)
 unfolding joining conflicts agrees
 joining-modest g s time used next q x d h n k t =
-    each (Modest used) _ _ _ (λ e. record { place = h; next = n; uses = refl; words = tt })
-    (λ e. each (Modest used) _ _ _ (λ e. record { place = h; next = n; uses = refl; words = tt })
-    (λ e. each (Modest used) _ _ _ (λ e. record { place = h; next = n; uses = refl; words = tt })
-    (λ c. each (Modest used) _ _ _ (λ e. record { place = h; next = n; uses = refl; words = tt })
-    (λ o. each (Modest used) _ _ _ (λ e. record { place = h; next = n; uses = refl; words = tt })
-    (λ e. each (Modest used) _ _ _ (λ e. record { place = h; next = n; uses = refl; words = tt })
+    each (Modest used) _ _ _ (λ e. record { next = n; uses = refl; words = tt })
+    (λ e. each (Modest used) _ _ _ (λ e. record { next = n; uses = refl; words = tt })
+    (λ e. each (Modest used) _ _ _ (λ e. record { next = n; uses = refl; words = tt })
+    (λ c. each (Modest used) _ _ _ (λ e. record { next = n; uses = refl; words = tt })
+    (λ o. each (Modest used) _ _ _ (λ e. record { next = n; uses = refl; words = tt })
+    (λ e. each (Modest used) _ _ _ (λ e. record { next = n; uses = refl; words = tt })
     (λ e.
     let m = kept-modest q x d k o in
     let a = eq-of (q .total) (x .total) (and-of _ _ (unnot _ (or-none _ _ c .1)) .0) in
@@ -142,7 +140,6 @@ described-modest : (s : Own) (time used : ℕ) (w : D.Description) (d : List ℕ
     → Modest used (descriptionTaken s time used w d)
 unfolding descriptionTaken noted
 described-modest s time used w d h t = record {
-  place = h;
   next = t;
   uses = refl;
   words = each B _ _ _ (λ q. tt) (λ q. each B _ _ _ (λ q. tt) (λ q. each B _ _ _ (λ q. tt) (λ q. each B _ _ _ (λ q. tt) (λ q. tt))));
@@ -153,16 +150,16 @@ described-modest s time used w d h t = record {
 
 taken-modest : (g : Shares) (s : Own) (desk time used : ℕ) (rest : List ℕ) (x : Unit) → s .place .slen ≤ sampleMost → time < 4294967296
     → Slight x → Modest used (taken g s desk time used rest x)
-taken-modest g s desk time used rest End h t k = record { place = h; next = t; uses = refl; words = tt }
-taken-modest g s desk time used rest (Skipped y) h t k = record { place = h; next = t; uses = refl; words = k }
-taken-modest g s desk time used rest (Refused r) h t k = record { place = h; next = t; uses = refl; words = tt }
+taken-modest g s desk time used rest End h t k = record { next = t; uses = refl; words = tt }
+taken-modest g s desk time used rest (Skipped y) h t k = record { next = t; uses = refl; words = k }
+taken-modest g s desk time used rest (Refused r) h t k = record { next = t; uses = refl; words = tt }
 taken-modest g s desk time used rest (Whole w) h t k = whole-modest s time used w (dataOf rest (Whole w)) h
 taken-modest g s desk time used rest (Part x) h t k =
     joining-modest g s time used (laterPart time x) (sampleOf (s .place) desk time x) x (dataOf rest (Part x)) h (later-modest time x t)
     (sample-modest (s .place) desk time x h) k
 taken-modest g s desk time used rest (Description w) h t k = described-modest s time used w (dataOf rest (Description w)) h t
 
-pub modest : (g : Shares) (s : Own) (desk time : ℕ) (rest : List ℕ) → s .place .slen ≤ sampleMost → time < 4294967296 → u8At rest 3 < 256
+pub modest : (g : Shares) (s : Own) (desk time : ℕ) (rest : List ℕ) → s .place .slen ≤ sampleMost → time < 4294967296
     → Modest (readOf rest .used) (received g s desk time rest)
 unfolding received
-modest g s desk time rest h t b = taken-modest g s desk time (readOf rest .used) rest (readOf rest .unit) h t (reads-slight rest b)
+modest g s desk time rest h t = taken-modest g s desk time (readOf rest .used) rest (readOf rest .unit) h t (reads-slight rest)

@@ -17,10 +17,10 @@ use Rattle.desk.specs.Effects.{progress}
 use Rattle.relay.specs.declared.Relay.{Relay}
 use Rattle.relay.specs.declared.Started.{Started}
 use Rattle.relay.specs.declared.Started.the-variants.{Ready, Refused}
-use Rattle.relay.specs.Relay.{Tables, Made, Done, tables, within, ownOf, sharesOf, improper, short, lacking, setUp, settled, ordered, receivedAt}
-use Rattle.good.specs.Good.{Good, no-stranger, no-lack, set-up-good, receive-good}
+use Rattle.relay.specs.Relay.{Tables, Prepared, Done, tables, placesOf, ownOf, sharesOf, improper, short, lacking, ready, setUp, settled, ordered, receivedAt}
+use Rattle.good.specs.Good.{Good, no-stranger, no-lack, ready-exactly, set-up-good, receive-good}
 use Rattle.lines.specs.Line.{lineOf}
-use Rattle.lines.specs.Written.{Laid, laid, written, more}
+use Rattle.lines.specs.Typed.{Page, page, typed, more}
 use Rattle.list.specs.Listed.{payloadMost, endLine, tooLong, blank, fresh, called, linesFrom, listed}
 
 neither : (a b : Bool) → a ≡ false → b ≡ false → (a or b) ≡ false
@@ -39,27 +39,26 @@ blank-enough =
     (neither _ _ (ge _ _ (simp length-replicate (omega arith))) (ge _ _ (simp length-replicate (omega arith)))))
     (ge _ _ (simp length-replicate (omega arith)))
 
-ready : setUp 1 blank .answer ≡ Ready (record { desks = 1 })
-unfolding setUp
-ready = ap (λ (m : Made). m .answer) (sym (no _ _ (neither _ _ proper blank-enough) refl))
+blank-ready : setUp 1 blank .answer ≡ ready 1
+blank-ready = ready-exactly 1 blank .1 (neither _ _ proper blank-enough)
 
 pub fresh-good : Good 1 fresh
 unfolding fresh
-fresh-good = set-up-good 1 blank (neither _ _ proper blank-enough)
+fresh-good = set-up-good 1 blank blank-ready
 
 abbrev desksOf : Started → ℕ
 desksOf (Ready r) = r .desks
 desksOf (Refused r) = 0
 
 -- in the code's own values: the places are lent as copies of p
-module _ (p : Place) (c : p ≡ closed) (m : Made)
+module _ (p : Place) (c : p ≡ closed) (m : Prepared)
     (e : m ≡ setUp 1 (tables (replicate placesMost p) (replicate finishedMost 0) (replicate marksEach 0) (replicate storeSize 0))) where
   begun : m ≡ setUp 1 blank
   unfolding blank
   begun = e ∙ ap (λ (q : Place). setUp 1 (tables (replicate placesMost q) (replicate finishedMost 0) (replicate marksEach 0) (replicate storeSize 0))) c
 
   begun-desks : desksOf (m .answer) ≡ 1
-  begun-desks = ap (λ (n : Made). desksOf (n .answer)) begun ∙ ap desksOf ready
+  begun-desks = ap (λ (n : Prepared). desksOf (n .answer)) begun ∙ ap desksOf blank-ready
 
   pub begun-ready : (r : Relay) → m .answer ≡ Ready r → r .desks ≡ 1
   begun-ready r a = sym (ap desksOf a) ∙ begun-desks
@@ -69,7 +68,7 @@ module _ (p : Place) (c : p ≡ closed) (m : Made)
 
   pub begun-fresh : m .tables ≡ fresh
   unfolding fresh
-  begun-fresh = ap (λ (n : Made). n .tables) begun
+  begun-fresh = ap (λ (n : Prepared). n .tables) begun
 
   pub begun-good : Good 1 (m .tables)
   begun-good = rw begun-fresh fresh-good
@@ -77,7 +76,7 @@ module _ (p : Place) (c : p ≡ closed) (m : Made)
 -- ---- a call of good tables is not refused by 1 and 2
 pub called-is : (s : Tables) (time : ℕ) (rest : List ℕ) → Good 1 s
     → called s time rest
-    ≡ settled 1 s 0 time (received (sharesOf 1 0 (within 1 s)) (ownOf 1 s 0 time (replicate sampleMost 0)) 0 time rest)
+    ≡ settled 1 s 0 time (received (sharesOf 1 0 (placesOf 1 s)) (ownOf 1 s 0 time (replicate sampleMost 0)) 0 time rest)
 unfolding receivedAt ordered
 called-is s time rest g =
     ap (settled 1 s 0 time)
@@ -89,7 +88,7 @@ called-is s time rest g =
 pub goes-on : (s : Tables) (time : ℕ) (rest : List ℕ) → Good 1 s → 0 < length rest
     → (0 < called s time rest .answer .used) × (called s time rest .answer .used ≤ length rest)
 goes-on s time rest g l =
-    let p = progress (sharesOf 1 0 (within 1 s)) (ownOf 1 s 0 time (replicate sampleMost 0)) 0 time rest in
+    let p = progress (sharesOf 1 0 (placesOf 1 s)) (ownOf 1 s 0 time (replicate sampleMost 0)) 0 time rest in
     rw (called-is s time rest g) (p .1 l, p .0)
 
 -- in the code's own values: `&input[at..]` is lent, and n is 1
@@ -113,17 +112,17 @@ unfolding linesFrom
 lines-turn k s time at rest d l e = no _ _ (ne _ _ (λ z. omega arith)) (rw e)
 
 -- ---- the loop: to write what is left is to write all. What is left begins at `at`, and its text at `next`
-pub record Listing (all : Laid) (input text : List ℕ) (s : Tables) (time at next : ℕ) : Type 0 where
+pub record Listing (all : Page) (input text : List ℕ) (s : Tables) (time at next : ℕ) : Type 0 where
   pub inside : at ≤ length input
   pub good : Good 1 s
   pub turns : ℕ
   pub enough : length input ≤ at + turns
-  pub same : written text next (linesFrom turns s time at (drop at input)) ≡ all
+  pub same : typed text next (linesFrom turns s time at (drop at input)) ≡ all
 
-pub begin : (input text : List ℕ) (s : Tables) → Good 1 s → Listing (written text 0 (linesFrom (length input) s 0 0 input)) input text s 0 0 0
+pub begin : (input text : List ℕ) (s : Tables) → Good 1 s → Listing (typed text 0 (linesFrom (length input) s 0 0 input)) input text s 0 0 0
 begin input text s g = record { inside = omega arith; good = g; turns = length input; enough = omega arith; same = refl }
 
-module _ (all : Laid) (input text : List ℕ) (s : Tables) (time at next : ℕ) (l : Listing all input text s time at next) where
+module _ (all : Page) (input text : List ℕ) (s : Tables) (time at next : ℕ) (l : Listing all input text s time at next) where
   pub turn-used : (d : Done) → at < length input → d ≡ called s time (drop at input) → (0 < d .answer .used) × (at + d .answer .used ≤ length input)
   turn-used d h e =
       let r : length (drop at input) ≡ length input - at = length-drop at input in
@@ -131,11 +130,11 @@ module _ (all : Laid) (input text : List ℕ) (s : Tables) (time at next : ℕ) 
       rw e (g .0, omega arith)
 
   pub turn : (d : Done) (after : List ℕ) (behind : ℕ) → at < length input → d ≡ called s time (drop at input)
-      → laid after behind ≡ written text next (lineOf at time (d .answer))
+      → page after behind ≡ typed text next (lineOf at time (d .answer))
       → Listing all input after (d .tables) (d .answer .next) (at + d .answer .used) behind
   turn d after behind h e w = go (l .turns) (l .enough) (l .same)
     where
-      go : (k : ℕ) → length input ≤ at + k → written text next (linesFrom k s time at (drop at input)) ≡ all
+      go : (k : ℕ) → length input ≤ at + k → typed text next (linesFrom k s time at (drop at input)) ≡ all
           → Listing all input after (d .tables) (d .answer .next) (at + d .answer .used) behind
       go zero n q = absurd (omega arith)
       go (suc k) n q =
@@ -146,26 +145,26 @@ module _ (all : Laid) (input text : List ℕ) (s : Tables) (time at next : ℕ) 
             good = rw e (receive-good 1 s (l .good) 0 time (drop at input) (replicate sampleMost 0));
             turns = k;
             enough = omega arith;
-            same = ap (λ (r : List ℕ). written after behind (linesFrom k (d .tables) (d .answer .next) (at + d .answer .used) r))
+            same = ap (λ (r : List ℕ). typed after behind (linesFrom k (d .tables) (d .answer .next) (at + d .answer .used) r))
                 (sym (drop-drop (d .answer .used) at input))
                 ∙ more text next (lineOf at time (d .answer)) _ after behind w
-                ∙ ap (written text next) (lines-turn k s time at (drop at input) d (omega arith) e)
+                ∙ ap (typed text next) (lines-turn k s time at (drop at input) d (omega arith) e)
                 ∙ q;
           }
 
-  pub finish : (after : List ℕ) (behind : ℕ) → length input ≤ at → laid after behind ≡ written text next endLine → laid after behind ≡ all
+  pub finish : (after : List ℕ) (behind : ℕ) → length input ≤ at → page after behind ≡ typed text next endLine → page after behind ≡ all
   finish after behind h w =
       let r : length (drop at input) ≡ 0 = rw (length-drop at input) (omega arith) in
-      w ∙ ap (written text next) (sym (lines-end (l .turns) s time at (drop at input) r)) ∙ l .same
+      w ∙ ap (typed text next) (sym (lines-end (l .turns) s time at (drop at input) r)) ∙ l .same
 
 -- ---- the two answers of the listing
-pub listed-long : (input text after : List ℕ) (behind : ℕ) → payloadMost < length input → laid after behind ≡ written text 0 tooLong
-    → laid after behind ≡ written text 0 (listed input)
+pub listed-long : (input text after : List ℕ) (behind : ℕ) → payloadMost < length input → page after behind ≡ typed text 0 tooLong
+    → page after behind ≡ typed text 0 (listed input)
 unfolding listed
-listed-long input text after behind h e = e ∙ ap (written text 0) (yes _ _ (lt _ _ h) refl)
+listed-long input text after behind h e = e ∙ ap (typed text 0) (yes _ _ (lt _ _ h) refl)
 
 pub listed-units : (input text after : List ℕ) (behind : ℕ) (s : Tables) → length input ≤ payloadMost → s ≡ fresh
-    → laid after behind ≡ written text 0 (linesFrom (length input) s 0 0 input) → laid after behind ≡ written text 0 (listed input)
+    → page after behind ≡ typed text 0 (linesFrom (length input) s 0 0 input) → page after behind ≡ typed text 0 (listed input)
 unfolding listed
 listed-units input text after behind s h f e =
-    e ∙ ap (written text 0) (no _ _ (ge _ _ h) (ap (λ (t : Tables). linesFrom (length input) t 0 0 input) f))
+    e ∙ ap (typed text 0) (no _ _ (ge _ _ h) (ap (λ (t : Tables). linesFrom (length input) t 0 0 input) f))

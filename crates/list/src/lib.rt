@@ -11,7 +11,7 @@ ghost use mathlib.Core.Path.{_≡_};
 ghost use lib.ListN.{length};
 ghost use Rattle.relay.specs.Relay.{tables};
 ghost use Rattle.good.specs.Good.{Good};
-ghost use Rattle.lines.specs.Written.{laid, written};
+ghost use Rattle.lines.specs.Typed.{page, typed};
 ghost use Rattle.list.specs.Listed.{linesFrom, listed};
 
 const PAYLOAD_MOST: usize = 4096;
@@ -27,7 +27,7 @@ fn list_units(
     text: &mut [u8],
 ) -> usize
     requires { ⌜ (relay .desks ≡ 1) × Good 1 (tables fresh (now rows) (now marks) (now stores)) ⌝ }
-    ensures { λ r. ⌜ laid (now (text .exit)) r ≡ written (now (text .entry)) 0 (linesFrom (length (now (input .entry))) (tables fresh (now (rows .entry)) (now (marks .entry)) (now (stores .entry))) 0 0 (now (input .entry))) ⌝ }
+    ensures { λ r. ⌜ page (now (text .exit)) r ≡ typed (now (text .entry)) 0 (linesFrom (length (now (input .entry))) (tables fresh (now (rows .entry)) (now (marks .entry)) (now (stores .entry))) 0 0 (now (input .entry))) ⌝ }
 {
     let mut places = fresh;
     let mut time: u32 = 0;
@@ -57,7 +57,7 @@ fn list_units(
 
 // A line for each unit of the payload, and `end`; for a longer input `too long`.
 pub fn list(input: &[u8], text: &mut [u8]) -> usize
-    ensures { λ r. ⌜ laid (now (text .exit)) r ≡ written (now (text .entry)) 0 (listed (now (input .entry))) ⌝ }
+    ensures { λ r. ⌜ page (now (text .exit)) r ≡ typed (now (text .entry)) 0 (listed (now (input .entry))) ⌝ }
 {
     if PAYLOAD_MOST < input.len() {
         return lines::put_text(text, 0, b"too long\n");

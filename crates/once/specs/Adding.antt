@@ -9,7 +9,7 @@ use mathlib.Core.List.{List, [], _∷_, flatten}
 use lib.ListN.{length, getD, length-append}
 use Rattle.laws.specs.Rows.{_⇒_⁏_, _=?_, _<?_, each, yes, no, ge, lt-of, ge-of, eq-of, ne-of}
 use Rattle.laws.specs.Region.{length-part}
-use Rattle.laws.specs.Sums.{sum, sum-gap}
+use Rattle.laws.specs.Sums.{sum, sum-gap, sum-front}
 use Rattle.paper.specs.Limits.{partsMost}
 use Rattle.joining.specs.Joining.{Piece, piece, together}
 use Rattle.text.specs.Strings.{well-formed}
@@ -25,7 +25,6 @@ use Rattle.sample.specs.Kept.{Fresh, has-not, keep-adds, keep-others}
 use Rattle.sample.specs.Made.{keep-made}
 use Rattle.sample.specs.Missing.{isKept, kept-has}
 use Rattle.sample.specs.Repeat.{agrees-is, repeat-of, repeat-is, kept-of}
-use Rattle.sample.specs.Sums.{sum-front}
 use Rattle.sample.specs.Told.{Name, nameOf, Word, keep-named, keep-string, keep-modifiers}
 use Rattle.once.specs.Due.{with}
 use Rattle.once.specs.Keeping.{partOf, Bears, Gathered, few}

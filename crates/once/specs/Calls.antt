@@ -22,7 +22,7 @@ use Rattle.relay.specs.Relay.{ordered}
 use Rattle.good.specs.View.{View, ownIn, receives}
 use Rattle.peace.specs.Run.{Call, receive, give-up, lookup, Got, Few}
 use Rattle.peace.specs.Alone.{lone, own-got, own-view, Sparing}
-use Rattle.once.specs.Ours.{bears, offers, counts, told, Begins, OneOf, Ours, NotGivenUp}
+use Rattle.once.specs.Ours.{bears, offers, counts, payloadNumber, Begins, OneOf, Ours, NotGivenUp}
 use Rattle.once.specs.Due.{Stage, gathering, finished, handsOut, finishes, due, Due, brought, passed, onward, Soon, handing}
 use Rattle.once.specs.Keeping.{Bears}
 use Rattle.once.specs.Others.{Passes, passes}
@@ -31,7 +31,7 @@ use Rattle.once.specs.Steps.{Standing, Holds, Serves, each-case, same-se
 -- whether what is due to the call is the sample
 abbrev pub handingDue : Caption → (M time : ℕ) → Stage → Call → Bool
 handingDue c M time s (receive desk at rest out) =
-    counts time (receive desk at rest out) ⇒ handsOut (due c M time s (told (readOf rest .unit))) ⁏ false
+    counts time (receive desk at rest out) ⇒ handsOut (due c M time s (payloadNumber (readOf rest .unit))) ⁏ false
 handingDue c M time s (give-up desk at) = false
 handingDue c M time s (lookup desk index book) = false
 
@@ -67,11 +67,11 @@ module _ (c : Caption) (M room : ℕ) (writable : Writable c M room) (u : uncut 
       subst (λ (s : List ℕ). (readOf s .unit ≡ wholeUnit c) × (dataOf s (wholeUnit c) ≡ sample c) × (k ≡ 1)) i (r .0, r .1, e)
 
   -- its unit has TYPE 1 to 4 and tells its number
-  pub begins-told : (k : ℕ) (rest : List ℕ) → Begins c M k rest → (bears (readOf rest .unit) ≡ true) × (told (readOf rest .unit) ≡ k)
+  pub begins-told : (k : ℕ) (rest : List ℕ) → Begins c M k rest → (bears (readOf rest .unit) ≡ true) × (payloadNumber (readOf rest .unit) ≡ k)
   begins-told k rest b =
       each-case (long c M)
-      (λ l. let r = reads-part l k rest b in (ap bears (r .is), ap told (r .is) ∙ r .bears .agrees .this))
-      (λ l. let r = reads-whole l k rest b in (ap bears (r .0), ap told (r .0) ∙ sym (r .2)))
+      (λ l. let r = reads-part l k rest b in (ap bears (r .is), ap payloadNumber (r .is) ∙ r .bears .agrees .this))
+      (λ l. let r = reads-whole l k rest b in (ap bears (r .0), ap payloadNumber (r .0) ∙ sym (r .2)))
 
   module _ (time : ℕ) (v : View) where
     -- ---- a call that counts
@@ -104,7 +104,7 @@ module _ (c : Caption) (M room : ℕ) (writable : Writable c M room) (u : uncut 
             same-served c M time v out (ap (due c M time (gathering came)) (sym (r .2))) (ap (brought c M (gathering came)) (sym (r .2)))
             (received-as (wholeUnit c) (r .0)) (whole-served c M time v out room writable u came h space l (readOf rest .used) _ (r .1))
 
-        served : Sparing v (receive desk time rest out) → (s : Stage) → Holds c M time v s → Soon s → Reached s (told (readOf rest .unit))
+        served : Sparing v (receive desk time rest out) → (s : Stage) → Holds c M time v s → Soon s → Reached s (payloadNumber (readOf rest .unit))
         served sparing (gathering came) h soon =
             let t = sym (begins-told k rest b .1) in
             same-served c M time v out (ap (due c M time (gathering came)) t) (ap (brought c M (gathering came)) t) refl
@@ -144,7 +144,7 @@ module _ (c : Caption) (M room : ℕ) (writable : Writable c M room) (u : uncut 
           hands = sym (yes _ _ (eq time time refl) (sym (ap handsOut (a .outcome)))) ∙ yes _ _ n refl;
         }
 
-    pub step : (x : Call) → Sparing v x → Ours c M time x → NotGivenUp time x → (s : Stage) → Holds c M time v s → (counts time x ≡ true → Soon s)
+    pub step : (x : Call) → Sparing v x → Ours c M time x → NotGivenUp time x (own-got v x) → (s : Stage) → Holds c M time v s → (counts time x ≡ true → Soon s)
         → Step x s
     step (receive desk at rest out) sparing ours kept-up s h soon =
         each-case (counts time (receive desk at rest out))

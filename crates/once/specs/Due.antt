@@ -21,7 +21,7 @@ use Rattle.desk.specs.declared.GivenUp.the-variants.{Freed}
 use Rattle.desk.specs.declared.GivenUp.the-variants as G
 use Rattle.desk.specs.Desk.{facts}
 use Rattle.peace.specs.Run.{Call, receive, give-up, lookup, Got, answered, released, shown}
-use Rattle.once.specs.Ours.{counts, told, Every, Ours, NotGivenUp, Comes}
+use Rattle.once.specs.Ours.{counts, payloadNumber, Every, EachGot, Ours, NotGivenUp, Comes}
 
 -- ---- how far the sample has come: which payloads came with room; or it is finished, and so many others finished since
 pub data Stage : Type 0 where
@@ -37,8 +37,8 @@ abbrev pub with : (ℕ → Bool) → (k : ℕ) → (ℕ → Bool)
 with came k = λ j. j =? k or came j
 
 -- how many of N are missing: N less the different ones that came
-unfoldable pub lacking : (N : ℕ) → (ℕ → Bool) → ℕ
-lacking N came = N - sum N (λ i. bit (came (suc i)))
+unfoldable pub awaited : (N : ℕ) → (ℕ → Bool) → ℕ
+awaited N came = N - sum N (λ i. bit (came (suc i)))
 
 -- ---- what is due, in a stage, to a call that counts and brings payload number k
 abbrev pub handsOut : Outcome → Bool
@@ -62,7 +62,7 @@ module _ (c : Caption) (M time : ℕ) where
   abbrev pub due : Stage → (k : ℕ) → Outcome
   due (gathering came) k =
       came k ⇒ O.Repeat
-      ⁏ 0 <? lacking (count c M) (with came k) ⇒ O.Kept (lacking (count c M) (with came k))
+      ⁏ 0 <? awaited (count c M) (with came k) ⇒ O.Kept (awaited (count c M) (with came k))
       ⁏ handed
   due (finished since) k = O.Refused R.Late
 
@@ -73,7 +73,7 @@ output c x out = handsOut x ⇒ sample c ++ drop (length (sample c)) out ⁏ out
 -- the call got that
 abbrev pub Due : Caption → (M time : ℕ) → Stage → Call → Got → Type 0
 Due c M time s (receive desk at rest out) (answered a after) =
-    (a .outcome ≡ due c M time s (told (readOf rest .unit))) × (after ≡ output c (due c M time s (told (readOf rest .unit))) out)
+    (a .outcome ≡ due c M time s (payloadNumber (readOf rest .unit))) × (after ≡ output c (due c M time s (payloadNumber (readOf rest .unit))) out)
 Due c M time s (receive desk at rest out) (released a) = ⊥
 Due c M time s (receive desk at rest out) (shown d) = ⊥
 Due c M time s (give-up desk at) g = Unit {0}
@@ -82,7 +82,7 @@ Due c M time s (lookup desk index book) g = Unit {0}
 -- ---- the stage after a call
 -- one that counts: the sample is finished when the last missing payload comes
 abbrev pub brought : Caption → (M : ℕ) → Stage → (k : ℕ) → Stage
-brought c M (gathering came) k = 0 <? lacking (count c M) (with came k) ⇒ gathering (with came k) ⁏ finished 0
+brought c M (gathering came) k = 0 <? awaited (count c M) (with came k) ⇒ gathering (with came k) ⁏ finished 0
 brought c M (finished since) k = finished since
 
 -- any other that got g: a sample finishes when it is whole, joined, spoiled or given up
@@ -110,7 +110,7 @@ passed (gathering came) g = gathering came
 passed (finished since) g = finishes g ⇒ finished (suc since) ⁏ finished since
 
 abbrev pub onward : Caption → (M time : ℕ) → Stage → Call → Got → Stage
-onward c M time s (receive desk at rest out) g = counts time (receive desk at rest out) ⇒ brought c M s (told (readOf rest .unit)) ⁏ passed s g
+onward c M time s (receive desk at rest out) g = counts time (receive desk at rest out) ⇒ brought c M s (payloadNumber (readOf rest .unit)) ⁏ passed s g
 onward c M time s (give-up desk at) g = passed s g
 onward c M time s (lookup desk index book) g = passed s g
 
@@ -161,7 +161,7 @@ pub record Coming (c : Caption) (M N time : ℕ) (xs : List Call) (gs : List Got
   -- each of them comes at least once with room
   pub each : (k : ℕ) → 1 ≤ k → k ≤ N → Comes c M time k xs
   -- the sample is not given up
-  pub kept-up : Every (NotGivenUp time) xs
+  pub kept-up : EachGot (NotGivenUp time) xs gs
   -- fewer than sixteen other samples finish between it and the last call that counts
   pub soon : AllSoon c M time start xs gs
 

@@ -8,6 +8,7 @@ use mathlib.Core.Option.{Option, none, some}
 use mathlib.Core.List.{List, [], _∷_}
 use lib.ListN.{length, getD}
 use Rattle.laws.specs.Rows.{_⇒_⁏_, _=?_, each, yes, no, eq-of, and-of}
+use Rattle.laws.specs.Sums.{sum-same, sum-tail, sum-all}
 use Rattle.laws.specs.Lists.{getD-any}
 use Rattle.laws.specs.Table.{bit}
 use Rattle.paper.specs.Limits.{partsMost}
@@ -26,8 +27,7 @@ use Rattle.sample.specs.Made.{opened-made}
 use Rattle.sample.specs.Arrival.{inOrder, arrival, in-order-is}
 use Rattle.sample.specs.Missing.{isKept, missing-is}
 use Rattle.sample.specs.Sound.{told-of}
-use Rattle.sample.specs.Sums.{sum-same, sum-tail, sum-all}
-use Rattle.once.specs.Due.{with, lacking}
+use Rattle.once.specs.Due.{with, awaited}
 
 -- part number k
 abbrev pub partOf : Caption → (M k : ℕ) → Piece
@@ -50,11 +50,11 @@ pub record Gathered (c : Caption) (M : ℕ) (came : ℕ → Bool) (p : Place) : 
   pub pieces : (k : ℕ) → keptAt p k ≡ (came k ⇒ some (partOf c M k) ⁏ none)
 
 -- only payloads come
-abbrev pub Within : (N : ℕ) → (ℕ → Bool) → Type 0
-Within N came = (k : ℕ) → came k ≡ true → (1 ≤ k) × (k ≤ N)
+abbrev pub Only : (N : ℕ) → (ℕ → Bool) → Type 0
+Only N came = (k : ℕ) → came k ≡ true → (1 ≤ k) × (k ≤ N)
 
-pub with-within : (N : ℕ) (came : ℕ → Bool) (k : ℕ) → Within N came → 1 ≤ k → k ≤ N → Within N (with came k)
-with-within N came k w a b j =
+pub with-only : (N : ℕ) (came : ℕ → Bool) (k : ℕ) → Only N came → 1 ≤ k → k ≤ N → Only N (with came k)
+with-only N came k w a b j =
     each (λ (z : Bool). z ≡ true → (1 ≤ j) × (j ≤ N)) (j =? k) true (came j) (λ e h. let q = eq-of j k e in (omega arith, omega arith)) (λ e h. w j h)
 
 first-string : (ps : List Piece) → ordered (kinds ps) ≡ true → getD ps 0 (piece 2 []) .kind ≡ 2
@@ -81,9 +81,9 @@ module _ (c : Caption) (M room : ℕ) (v : Writable c M room) (u : uncut c M ≡
 
   module _ (came : ℕ → Bool) (p : Place) (g : Gathered c M came p) where
     -- ---- how many are missing
-    pub missing-lacking : Within (count c M) came → missing p ≡ lacking (count c M) came
-    unfolding lacking
-    missing-lacking w =
+    pub missing-awaited : Only (count c M) came → missing p ≡ awaited (count c M) came
+    unfolding awaited
+    missing-awaited w =
         missing-is p (g .made)
         ∙ omega (
           arith,
@@ -103,9 +103,9 @@ module _ (c : Caption) (M room : ℕ) (v : Writable c M room) (u : uncut c M ≡
             go false e = refl
 
     -- ---- none is missing: the parts are all there, and make the sample
-    module _ (none-missing : lacking (count c M) came ≡ 0) where
+    module _ (none-missing : awaited (count c M) came ≡ 0) where
       came-each : (k : ℕ) → 1 ≤ k → k ≤ count c M → came k ≡ true
-      unfolding lacking
+      unfolding awaited
       came-each k a b =
           let q : suc (k - 1) ≡ k = omega arith in
           let s = sum-all (count c M) (λ i. bit (came (suc i))) (λ i. most (came (suc i))) (omega arith) (k - 1) (omega arith) in

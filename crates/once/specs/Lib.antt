@@ -7,4 +7,5 @@ pub mod Others
 pub mod Steps
 pub mod Calls
 pub mod Once
+pub mod Described
 pub mod Worked

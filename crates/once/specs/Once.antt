@@ -7,8 +7,8 @@ use mathlib.Core.Bool.{Bool, true, false, true≢false}
 use mathlib.Core.Logic.{⊎-elim}
 use mathlib.Core.List.{List, [], _∷_}
 use lib.ListN.{length, replicate, length-replicate}
-use Rattle.laws.specs.Rows.{_⇒_⁏_, _or_, _<?_, each, yes, no, eq, lt, ge, ne-of, or-none}
-use Rattle.laws.specs.Sums.{sum-zero}
+use Rattle.laws.specs.Rows.{_⇒_⁏_, _<?_, each, yes, no, eq, lt, ge, ne-of, or-none}
+use Rattle.laws.specs.Sums.{sum-zero, sum-ones}
 use Rattle.laws.specs.Table.{bit}
 use Rattle.paper.specs.Limits.{finishedMost}
 use Rattle.paper.specs.declared.Refusal.{Refusal}
@@ -19,16 +19,15 @@ use Rattle.writer.specs.declared.Written.the-variants.{Payload, Refused}
 use Rattle.writer.specs.Returns.{Writable, writable}
 use Rattle.writer.specs.Payloads.{total}
 use Rattle.sample.specs.Place.{bare}
-use Rattle.sample.specs.Sums.{sum-ones}
 use Rattle.finished.specs.Until.{none-late}
 use Rattle.desk.specs.Desk.{sampleOf}
-use Rattle.relay.specs.Relay.{Tables, improper, lacking, setUp}
+use Rattle.relay.specs.Relay.{Tables, ready, setUp}
 use Rattle.good.specs.Good.{set-up-good}
 use Rattle.good.specs.View.{View, view}
 use Rattle.good.specs.Fresh.{freshView, set-up-view}
 use Rattle.peace.specs.Run.{Call, receive, give-up, lookup, Got, run, to, only, Modest}
 use Rattle.peace.specs.Alone.{own-got, own-view, alone, Frugal, modest-frugal, as-frugal}
-use Rattle.once.specs.Ours.{counts, told, Every, Ours, NotGivenUp, Brings, Comes}
+use Rattle.once.specs.Ours.{counts, payloadNumber, Every, EachGot, Ours, NotGivenUp, Brings, Comes}
 use Rattle.once.specs.Due.{Stage, gathering, finished, with, handsOut, finishes, due, brought, passed, onward, AllSoon, AllDue, handings, start, Coming, HandedOnce}
 use Rattle.once.specs.Due as W
 use Rattle.once.specs.Keeping.{Gathered, opened-gathered}
@@ -64,12 +63,12 @@ Awaits c M time (finished since) xs = Unit {0}
 module _ (c : Caption) (M room : ℕ) (w : Writable c M room) (u : uncut c M ≡ false) (time : ℕ) where
   -- ---- from set-up on
   fresh-holds : Holds c M time freshView start
-  unfolding bare sampleOf W.lacking
+  unfolding bare sampleOf W.awaited
   fresh-holds = record {
     fit = record { row = omega (arith, length-replicate {A = ℕ} finishedMost 0); marks = omega arith };
     timely = none-late (replicate finishedMost 0) time;
     standing = record {
-      within = λ k e. absurd (true≢false (sym e));
+      only = λ k e. absurd (true≢false (sym e));
       some = omega (arith, total c M room w u, sum-zero (count c M) (λ i. 0) (λ i. refl));
       cut = λ l desk x t s. subst (Gathered c M (λ k. false)) (no _ _ refl refl) (opened-gathered c M room w u l desk time x t s (λ k. false) (λ k. refl));
       uncut = λ l. (refl, λ k. refl);
@@ -77,7 +76,7 @@ module _ (c : Caption) (M room : ℕ) (w : Writable c M room) (u : uncut c M ≡
   }
 
   -- ---- every call that counts gets what is due
-  all-due : (xs : List Call) (v : View) (s : Stage) → Holds c M time v s → Frugal v xs → Every (Ours c M time) xs → Every (NotGivenUp time) xs
+  all-due : (xs : List Call) (v : View) (s : Stage) → Holds c M time v s → Frugal v xs → Every (Ours c M time) xs → EachGot (NotGivenUp time) xs (alone v xs)
       → AllSoon c M time s xs (alone v xs) → AllDue c M time s xs (alone v xs)
   all-due [] v s h f o k soon = tt
   all-due (x ∷ xs) v s h f o k soon =
@@ -89,9 +88,9 @@ module _ (c : Caption) (M room : ℕ) (w : Writable c M room) (u : uncut c M ≡
   brought-moves v (gathering came) h k =
       each-case (came k)
       (λ e.
-      let m = subst (λ (f : ℕ → Bool). 0 < W.lacking (count c M) f) (sym (with-again came k e)) (h .standing .some) in
+      let m = subst (λ (f : ℕ → Bool). 0 < W.awaited (count c M) f) (sym (with-again came k e)) (h .standing .some) in
       go (yes _ _ e refl) (yes _ _ (lt _ _ m) refl) refl)
-      (λ e. each-case (0 <? W.lacking (count c M) (with came k)) (λ m. go (no _ _ e (yes _ _ m refl)) (yes _ _ m refl) refl)
+      (λ e. each-case (0 <? W.awaited (count c M) (with came k)) (λ m. go (no _ _ e (yes _ _ m refl)) (yes _ _ m refl) refl)
       (λ m. go (no _ _ e (no _ _ m refl)) (no _ _ m refl) (each (λ (y : Outcome). bit (handsOut y) + 0 ≡ 1) (long c M) _ _ (λ l. refl) (λ l. refl))))
     where
       go : {y : Outcome} {t : Stage} → y ≡ due c M time (gathering came) k → t ≡ brought c M (gathering came) k → bit (handsOut y) + remaining t ≡ 1
@@ -107,9 +106,9 @@ module _ (c : Caption) (M room : ℕ) (w : Writable c M room) (u : uncut c M ≡
   unfolding _⇒_⁏_
   moves v s h (receive desk at rest out) g = go (counts time (receive desk at rest out))
     where
-      go : (b : Bool) → bit (b ⇒ handsOut (due c M time s (told (readOf rest .unit))) ⁏ false)
-          + remaining (b ⇒ brought c M s (told (readOf rest .unit)) ⁏ passed s g) ≡ remaining s
-      go true = brought-moves v s h (told (readOf rest .unit))
+      go : (b : Bool) → bit (b ⇒ handsOut (due c M time s (payloadNumber (readOf rest .unit))) ⁏ false)
+          + remaining (b ⇒ brought c M s (payloadNumber (readOf rest .unit)) ⁏ passed s g) ≡ remaining s
+      go true = brought-moves v s h (payloadNumber (readOf rest .unit))
       go false = passed-moves s g
   moves v s h (give-up desk at) g = passed-moves s g
   moves v s h (lookup desk index book) g = passed-moves s g
@@ -126,7 +125,7 @@ module _ (c : Caption) (M room : ℕ) (w : Writable c M room) (u : uncut c M ≡
   passed-awaits (finished since) x g xs n a = each (λ (t : Stage). Awaits c M time t xs) (finishes g) _ _ (λ e. tt) (λ e. tt)
 
   brought-awaits : (s : Stage) (desk at : ℕ) (rest out : List ℕ) (xs : List Call) → Awaits c M time s (receive desk at rest out ∷ xs)
-      → Awaits c M time (brought c M s (told (readOf rest .unit))) xs
+      → Awaits c M time (brought c M s (payloadNumber (readOf rest .unit))) xs
   brought-awaits (gathering came) desk at rest out xs a =
       each (λ (t : Stage). Awaits c M time t xs) _ _ _
       (λ m k i j e.
@@ -144,14 +143,14 @@ module _ (c : Caption) (M room : ℕ) (w : Writable c M room) (u : uncut c M ≡
 
   -- as long as a payload is missing, it is still to come
   none-left : (v : View) (s : Stage) → Holds c M time v s → Awaits c M time s [] → 0 ≡ remaining s
-  unfolding W.lacking
+  unfolding W.awaited
   none-left v (gathering came) h a =
       let all : (i : ℕ) → i < count c M → bit (came (suc i)) ≡ 1 =
       λ i l. each-case (came (suc i)) (λ e. ap bit e) (λ e. absurd (a (suc i) (omega arith) (omega arith) e)) in
       absurd (omega (arith, h .standing .some, sum-ones (count c M) (λ i. bit (came (suc i))) all))
   none-left v (finished since) h a = refl
 
-  all-once : (xs : List Call) (v : View) (s : Stage) → Holds c M time v s → Frugal v xs → Every (Ours c M time) xs → Every (NotGivenUp time) xs
+  all-once : (xs : List Call) (v : View) (s : Stage) → Holds c M time v s → Frugal v xs → Every (Ours c M time) xs → EachGot (NotGivenUp time) xs (alone v xs)
       → AllSoon c M time s xs (alone v xs) → Awaits c M time s xs → handings time xs (alone v xs) ≡ remaining s
   all-once [] v s h f o k soon a = none-left v s h a
   all-once (x ∷ xs) v s h f o k soon a =
@@ -174,7 +173,7 @@ fresh-once c M N time xs f p =
     }
 
 -- In any run from set-up, among all others: what a modest desk is told of a sample whose payloads come to it.
-pub handed-out-once : (n d : ℕ) → d < n → (s : Tables) → (improper n or lacking n s) ≡ false → (xs : List Call) → Modest n d (setUp n s .tables) xs
+pub handed-out-once : (n d : ℕ) → d < n → (s : Tables) → setUp n s .answer ≡ ready n → (xs : List Call) → Modest n d (setUp n s .tables) xs
     → (c : Caption) (M N time : ℕ) → Coming c M N time (only d xs) (to d (run n (setUp n s .tables) xs))
     → HandedOnce c M time (only d xs) (to d (run n (setUp n s .tables) xs))
 handed-out-once n d h s e xs m c M N time p =

@@ -12,12 +12,16 @@ use Rattle.sample.specs.declared.Place.{Place}
 use Rattle.finished.specs.Times.{late, markedRow, markedUsed}
 use Rattle.finished.specs.Marks.{rowAfter, usedAfter, length-kept}
 use Rattle.finished.specs.Until.{found-until, no-other}
-use Rattle.desk.specs.Desk.{Own, inUse}
-use Rattle.good.specs.View.{View, ownIn, seenAfter, receives}
-use Rattle.peace.specs.Run.{Call, receive, give-up, lookup}
+use Rattle.desk.specs.declared.GivenUp.{GivenUp}
+use Rattle.desk.specs.declared.GivenUp.the-variants.{Freed}
+use Rattle.desk.specs.declared.GivenUp.the-variants as G
+use Rattle.desk.specs.Desk.{Own, inUse, Given, givenUp}
+use Rattle.relay.specs.Relay.{yielded}
+use Rattle.good.specs.View.{View, ownIn, seenAfter, receives, givesUp}
+use Rattle.peace.specs.Run.{Call, receive, give-up, lookup, released}
 use Rattle.peace.specs.Alone.{lone, own-got, own-view}
 use Rattle.once.specs.Ours.{counts, NotGivenUp}
-use Rattle.once.specs.Due.{Stage, gathering, finished, finishing, passed, handing}
+use Rattle.once.specs.Due.{Stage, gathering, finished, finishing, freeing, passed, handing}
 use Rattle.once.specs.Marks.{Marks, Idles, receive-marks, receive-idles, give-up-marks}
 
 -- ---- the row and the marks are as long as a desk needs them
@@ -98,6 +102,18 @@ module _ (v : View) (at : ℕ) (out : List ℕ) (o : Own) (time : ℕ) (f : Fit 
         many = s .many;
       }
 
+-- ---- a give-up that frees nothing leaves all as it was
+is-freed : (a : GivenUp) → freeing a ≡ true → a ≡ Freed
+is-freed Freed e = refl
+is-freed (G.Refused r) e = absurd (true≢false (sym e))
+
+unfreed : (v : View) (at : ℕ) → (givesUp v at .answer ≡ Freed → ⊥) → givesUp v at .own ≡ ownIn v at []
+unfolding yielded givenUp
+unfreed v at = each Stays _ _ _ (λ q n. refl) (λ q. each Stays _ _ _ (λ u n. absurd (n refl)) (λ u n. refl))
+  where
+    Stays : Given → Type 0
+    Stays a = (a .answer ≡ Freed → ⊥) → a .own ≡ ownIn v at []
+
 -- ---- a call that does not count
 pub record Passes (time : ℕ) (v : View) (x : Call) (s : Stage) : Type 0 where
   pub place : own-view v x .at time ≡ v .at time
@@ -111,9 +127,10 @@ module _ (time : ℕ) (v : View) (f : Fit v) where
   timely-receive desk at rest out n (gathering came) h = after-early v at out _ time f _ (receive-marks (lone v) v desk at rest out (f .marks)) n h
   timely-receive desk at rest out n (finished since) h = after-since v at out _ time f _ (receive-marks (lone v) v desk at rest out (f .marks)) since h
 
-  timely-give-up : (desk at : ℕ) → (at ≡ time → ⊥) → (s : Stage) → Timely v time s
+  timely-give-up : (desk at : ℕ) → NotGivenUp time (give-up desk at) (own-got v (give-up desk at)) → (s : Stage) → Timely v time s
       → Timely (own-view v (give-up desk at)) time (passed s (own-got v (give-up desk at)))
-  timely-give-up desk at n (gathering came) h = after-early v at [] _ time f _ (give-up-marks v at (f .marks)) (λ e. n) h
+  timely-give-up desk at n (gathering came) h =
+      after-early v at [] _ time f _ (give-up-marks v at (f .marks)) (λ e q. n q (ap released (is-freed (givesUp v at .answer) e))) h
   timely-give-up desk at n (finished since) h = after-since v at [] _ time f _ (give-up-marks v at (f .marks)) since h
 
   timely-lookup : (desk index : ℕ) (book : List ℕ) (s : Stage) → Timely v time s → Timely v time (passed s (own-got v (lookup desk index book)))
@@ -121,7 +138,7 @@ module _ (time : ℕ) (v : View) (f : Fit v) where
   timely-lookup desk index book (gathering came) h = h
   timely-lookup desk index book (finished since) h = h
 
-  pub passes : (x : Call) → counts time x ≡ false → NotGivenUp time x → (s : Stage) → Timely v time s → Passes time v x s
+  pub passes : (x : Call) → counts time x ≡ false → NotGivenUp time x (own-got v x) → (s : Stage) → Timely v time s → Passes time v x s
   passes (receive desk at rest out) n g s h =
       let quiet : at ≡ time → Idles (ownIn v at out) at (receives (lone v) v desk at rest out) = λ e. receive-idles (lone v) v desk at rest out (yes _ _ (eq at time e) refl ∙ n) in
       record {
@@ -133,7 +150,11 @@ module _ (time : ℕ) (v : View) (f : Fit v) where
         none = each (λ (b : Bool). b ≡ false) (at =? time) _ false (λ e. quiet (eq-of at time e) .idle .1) (λ e. refl);
       }
   passes (give-up desk at) n g s h = record {
-    place = each (λ (p : Place). p ≡ v .at time) (time =? at) _ _ (λ e. absurd (g (sym (eq-of time at e)))) (λ e. refl);
+    place =
+        each (λ (p : Place). p ≡ v .at time) (time =? at) _ _
+        (λ e.
+        let q = sym (eq-of time at e) in
+        ap (λ (o : Own). o .place) (unfreed v at (λ z. g q (ap released z))) ∙ ap (v .at) q) (λ e. refl);
     fit = after-fit v at [] _ time f _ (give-up-marks v at (f .marks));
     timely = timely-give-up desk at g s h;
     none = refl;

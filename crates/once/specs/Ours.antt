@@ -12,7 +12,8 @@ use Rattle.unit.specs.declared.Unit as U
 use Rattle.unit.specs.declared.Unit.the-variants.{End, Skipped, Refused, Whole, Part, Description}
 use Rattle.unit.specs.Layout.{readOf}
 use Rattle.writer.specs.Write.{Caption, count, payload}
-use Rattle.peace.specs.Run.{Call, receive, give-up, lookup}
+use Rattle.desk.specs.declared.GivenUp.the-variants.{Freed}
+use Rattle.peace.specs.Run.{Call, receive, give-up, lookup, Got, released}
 
 -- ---- the calls that count
 -- a unit of TYPE 1 to 4
@@ -35,13 +36,13 @@ counts time (give-up desk at) = false
 counts time (lookup desk index book) = false
 
 -- the number of the payload, as its unit tells it: THIS, and 1 for a whole sample
-abbrev pub told : U.Unit → ℕ
-told End = 0
-told (Skipped t) = 0
-told (Refused r) = 0
-told (Whole w) = 1
-told (Part x) = x .this
-told (Description w) = 0
+abbrev pub payloadNumber : U.Unit → ℕ
+payloadNumber End = 0
+payloadNumber (Skipped t) = 0
+payloadNumber (Refused r) = 0
+payloadNumber (Whole w) = 1
+payloadNumber (Part x) = x .this
+payloadNumber (Description w) = 0
 
 -- ---- what is presumed of the desk's calls
 abbrev pub Every : (Call → Type 0) → List Call → Type 0
@@ -65,11 +66,17 @@ Ours c M time (receive desk at rest out) = counts time (receive desk at rest out
 Ours c M time (give-up desk at) = Unit {0}
 Ours c M time (lookup desk index book) = Unit {0}
 
--- the sample is not given up
-abbrev pub NotGivenUp : (time : ℕ) → Call → Type 0
-NotGivenUp time (receive desk at rest out) = Unit {0}
-NotGivenUp time (give-up desk at) = at ≡ time → ⊥
-NotGivenUp time (lookup desk index book) = Unit {0}
+-- the sample is not given up: no give-up of its time is answered 'freed'; one that is refused gives nothing up
+abbrev pub NotGivenUp : (time : ℕ) → Call → Got → Type 0
+NotGivenUp time (receive desk at rest out) g = Unit {0}
+NotGivenUp time (give-up desk at) g = at ≡ time → g ≡ released Freed → ⊥
+NotGivenUp time (lookup desk index book) g = Unit {0}
+
+-- what holds of each call and what it got
+abbrev pub EachGot : (Call → Got → Type 0) → List Call → List Got → Type 0
+EachGot P [] gs = Unit {0}
+EachGot P (c ∷ cs) [] = Unit {0}
+EachGot P (c ∷ cs) (g ∷ gs) = P c g × EachGot P cs gs
 
 -- payload number k comes at the time with an output of at least 1,024
 abbrev pub Brings : Caption → (M time k : ℕ) → Call → Type 0

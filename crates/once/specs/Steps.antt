@@ -27,8 +27,8 @@ use Rattle.good.specs.View.{View, ownIn, seenAfter}
 use Rattle.peace.specs.Run.{Few}
 use Rattle.peace.specs.Alone.{lone}
 use Rattle.once.specs.Ours.{bears}
-use Rattle.once.specs.Due.{handsOut, Stage, gathering, finished, with, lacking, due, output, brought}
-use Rattle.once.specs.Keeping.{Bears, Gathered, Within, with-within, missing-lacking, word-all, sound-all, together-all, string-all}
+use Rattle.once.specs.Due.{handsOut, Stage, gathering, finished, with, awaited, due, output, brought}
+use Rattle.once.specs.Keeping.{Bears, Gathered, Only, with-only, missing-awaited, word-all, sound-all, together-all, string-all}
 use Rattle.once.specs.Adding.{agrees-ours, repeats-ours, no-repeat, fresh, kept-gathered}
 use Rattle.once.specs.Others.{Fit, Timely, since-late}
 
@@ -38,8 +38,8 @@ wholeOf c = record { u = c .U; sidx = c .SIDX; sdur = c .SDUR; tlen = length (c 
 
 -- ---- what the desk has of the sample in a stage, p being its place: the parts that came; of one that is not cut, nothing
 pub record Stands (c : Caption) (M time : ℕ) (p : Place) (came : ℕ → Bool) : Type 0 where
-  pub within : Within (count c M) came
-  pub some : 0 < lacking (count c M) came
+  pub only : Only (count c M) came
+  pub some : 0 < awaited (count c M) came
   pub cut : long c M ≡ true → (desk : ℕ) (x : P.Part) → x .total ≡ count c M → x .sdur ≡ c .SDUR → Gathered c M came (sampleOf p desk time x)
   pub uncut : long c M ≡ false → (p .used ≡ false) × ((k : ℕ) → came k ≡ false)
 
@@ -145,8 +145,8 @@ module _ (c : Caption) (M time : ℕ) (v : View) (out : List ℕ) where
   module _ (room : ℕ) (writable : Writable c M room) (u : uncut c M ≡ false) (came : ℕ → Bool) (h : Holds c M time v (gathering came)) (space : sampleMost ≤ length out) where
     -- ---- a sample that is not cut is whole
     module _ (l : long c M ≡ false) where
-      one-lacks : lacking (count c M) (with came 1) ≡ 0
-      unfolding lacking
+      one-lacks : awaited (count c M) (with came 1) ≡ 0
+      unfolding awaited
       one-lacks =
           let e : with came 1 1 ≡ true = sym (yes _ _ (eq 1 1 refl) refl) in
           let n : count c M ≡ 1 = whole-count c M l in
@@ -158,7 +158,7 @@ module _ (c : Caption) (M time : ℕ) (v : View) (out : List ℕ) where
       unfolding wholeTaken
       whole-served used d e =
           let n = h .standing .uncut l in
-          let none-lacks : (0 <? lacking (count c M) (with came 1)) ≡ false = ge _ _ (omega (arith, one-lacks)) in
+          let none-lacks : (0 <? awaited (count c M) (with came 1)) ≡ false = ge _ _ (omega (arith, one-lacks)) in
           let f = O.Whole (facts time (c .U) (c .SIDX) (c .SDUR) (length (c .string)) (length (sample c))) in
           let a : List ℕ → After = λ y. record { own = finish (ownIn v time out) time (v .at time) (sets out 0 y); answer = says used (later time (c .SDUR)) f } in
           same-served (no _ _ (n .1 1) (no _ _ none-lacks (no _ _ l refl))) (no _ _ none-lacks refl)
@@ -181,7 +181,7 @@ module _ (c : Caption) (M time : ℕ) (v : View) (out : List ℕ) where
       unfolding joining
       again-served e =
           let w = with-again came k e in
-          let m : 0 < lacking (count c M) (with came k) = subst (λ (f : ℕ → Bool). 0 < lacking (count c M) f) (sym w) (h .standing .some) in
+          let m : 0 < awaited (count c M) (with came k) = subst (λ (f : ℕ → Bool). 0 < awaited (count c M) f) (sym w) (h .standing .some) in
           same-served (yes _ _ e refl) (yes _ _ (lt _ _ m) (ap gathering (sym w)))
           (no _ _ (h .timely) (yes _ _ (repeats-ours c M room writable u l came q g k x d b e) refl)) (stayed (gathering came) h used next O.Repeat refl)
 
@@ -192,17 +192,17 @@ module _ (c : Caption) (M time : ℕ) (v : View) (out : List ℕ) where
         g' : Gathered c M (with came k) p
         g' = kept-gathered c M room writable u l came q g k x d b new
 
-        in-it : Within (count c M) (with came k)
-        in-it = with-within (count c M) came k (h .standing .within) (b .from) (b .to)
+        in-it : Only (count c M) (with came k)
+        in-it = with-only (count c M) came k (h .standing .only) (b .from) (b .to)
 
-        lacks : missing p ≡ lacking (count c M) (with came k)
-        lacks = missing-lacking c M room writable u l (with came k) p g' in-it
+        lacks : missing p ≡ awaited (count c M) (with came k)
+        lacks = missing-awaited c M room writable u l (with came k) p g' in-it
 
         -- some are missing still
-        kept-served : (0 <? lacking (count c M) (with came k)) ≡ true → Served (completed (ownIn v time out) time used next p)
+        kept-served : (0 <? awaited (count c M) (with came k)) ≡ true → Served (completed (ownIn v time out) time used next p)
         unfolding completed sampleOf
         kept-served e =
-            let m = lacking (count c M) (with came k) in
+            let m = awaited (count c M) (with came k) in
             let a : ℕ → After = λ n. record { own = own p (v .row) (v .marks) (v .store) out; answer = says used next (O.Kept n) } in
             same-served (no _ _ new (yes _ _ e refl)) (yes _ _ e refl) (yes _ _ (lt _ _ (omega (arith, lacks, lt-of _ _ e))) (ap a (sym lacks)))
             (record {
@@ -214,7 +214,7 @@ module _ (c : Caption) (M time : ℕ) (v : View) (out : List ℕ) where
                 standing =
                     subst (λ (z : Place). Stands c M time z (with came k)) (sym (stood (a m .own)))
                     (record {
-                      within = in-it;
+                      only = in-it;
                       some = lt-of _ _ e;
                       cut = λ t desk x i j. subst (Gathered c M (with came k)) (yes _ _ (g' .used) refl) g';
                       uncut = λ t. absurd (true≢false (sym l ∙ t));
@@ -223,10 +223,10 @@ module _ (c : Caption) (M time : ℕ) (v : View) (out : List ℕ) where
             })
 
         -- it was the last
-        joined-served : (0 <? lacking (count c M) (with came k)) ≡ false → Served (completed (ownIn v time out) time used next p)
+        joined-served : (0 <? awaited (count c M) (with came k)) ≡ false → Served (completed (ownIn v time out) time used next p)
         unfolding completed
         joined-served e =
-            let z : lacking (count c M) (with came k) ≡ 0 = omega (arith, ge-of _ _ e) in
+            let z : awaited (count c M) (with came k) ≡ 0 = omega (arith, ge-of _ _ e) in
             let w = word-all c M room writable u l (with came k) p g' z in
             let t = together-all c M room writable u l (with came k) p g' z in
             let r = string-all c M room writable u l (with came k) p g' z in
@@ -252,4 +252,4 @@ module _ (c : Caption) (M time : ℕ) (v : View) (out : List ℕ) where
             (no _ _ (f .fits)
             (no _ _ (each z (v .at time .used) _ _ (λ e. refl) (λ e. ge _ _ (omega (arith, few e))))
             (no _ _ (each z (v .at time .used) _ _ (λ e. refl) (λ e. sym (yes _ _ (lt _ _ (few e)) refl))) refl))))))
-            (each-case (0 <? lacking (count c M) (with came k)) kept-served joined-served)
+            (each-case (0 <? awaited (count c M) (with came k)) kept-served joined-served)

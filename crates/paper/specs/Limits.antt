@@ -1,16 +1,19 @@
 -- The limits of document 01, each named once; src/limits.rt has the fixed numbers under the same names for the code. Assumes nothing.
-use Prim.Native.Nat.{ℕ, _*_}
+use Prim.Native.Nat.{ℕ, _+_, _*_}
 
 -- the longest sample, the bytes that a place keeps, and the least output
 abbrev pub sampleMost : ℕ
 sampleMost = 1024
 
--- the longest description, and a record with its four bytes in front
+-- the longest description, and a record: index, zero and length, four bytes, and then the description
 abbrev pub descriptionMost : ℕ
 descriptionMost = 256
 
+abbrev pub recordHead : ℕ
+recordHead = 4
+
 abbrev pub recordSize : ℕ
-recordSize = 260
+recordSize = recordHead + descriptionMost
 
 abbrev pub partsMost : ℕ
 partsMost = 15
@@ -33,34 +36,46 @@ reserved = 255
 abbrev pub desksMost : ℕ
 desksMost = 8
 
--- open samples: a desk's own places, and the most that it may have
+-- open samples: a desk's own places, its share of the common ones, and the most that it may have
 abbrev pub ownPlaces : ℕ
 ownPlaces = 2
+
+abbrev pub commonEach : ℕ
+commonEach = 2
 
 abbrev pub openMost : ℕ
 openMost = 6
 
--- what each desk needs of the lent memory: places, marks (how many finished times are in use; the newest in-band value, where
--- `inBand` is none), and its store of 64 records
+-- what each desk needs of the lent memory: places; finished times (`finishedMost`); marks (how many finished times are in use; the
+-- newest in-band value, where `inBand` is none); and its store, a record for each value of the window
 abbrev pub placesEach : ℕ
-placesEach = 4
-
--- what eight desks need
-abbrev pub placesMost : ℕ
-placesMost = 32
+placesEach = ownPlaces + commonEach
 
 abbrev pub marksEach : ℕ
 marksEach = 2
 
 abbrev pub storeSize : ℕ
-storeSize = 16640
+storeSize = window * recordSize
 
 -- n desks have 4n places, of which 2n are common
 abbrev pub places : ℕ → ℕ
 places n = placesEach * n
 
 abbrev pub common : ℕ → ℕ
-common n = 2 * n
+common n = commonEach * n
+
+-- what eight desks need
+abbrev pub placesMost : ℕ
+placesMost = placesEach * desksMost
+
+abbrev pub rowsMost : ℕ
+rowsMost = finishedMost * desksMost
+
+abbrev pub marksMost : ℕ
+marksMost = marksEach * desksMost
+
+abbrev pub storesMost : ℕ
+storesMost = storeSize * desksMost
 
 -- the writer's size limit, and the first SDUR that does not fit 24 bits
 abbrev pub sizeLeast : ℕ

@@ -3,7 +3,9 @@ pub const SAMPLE_MOST: usize = 1024;
 
 pub const DESCRIPTION_MOST: usize = 256;
 
-pub const RECORD_SIZE: usize = 260;
+pub const RECORD_HEAD: usize = 4;
+
+pub const RECORD_SIZE: usize = RECORD_HEAD + DESCRIPTION_MOST;
 
 pub const PARTS_MOST: usize = 15;
 
@@ -17,17 +19,25 @@ pub const RESERVED: usize = 255;
 
 pub const DESKS_MOST: usize = 8;
 
-pub const PLACES_EACH: usize = 4;
+pub const OWN_PLACES: usize = 2;
 
-pub const PLACES_MOST: usize = 32;
+pub const COMMON_EACH: usize = 2;
+
+pub const OPEN_MOST: usize = 6;
+
+pub const PLACES_EACH: usize = OWN_PLACES + COMMON_EACH;
 
 pub const MARKS_EACH: usize = 2;
 
-pub const STORE_SIZE: usize = 16640;
+pub const STORE_SIZE: usize = WINDOW * RECORD_SIZE;
 
-pub const OWN_PLACES: usize = 2;
+pub const PLACES_MOST: usize = PLACES_EACH * DESKS_MOST;
 
-pub const OPEN_MOST: usize = 6;
+pub const ROWS_MOST: usize = FINISHED_MOST * DESKS_MOST;
+
+pub const MARKS_MOST: usize = MARKS_EACH * DESKS_MOST;
+
+pub const STORES_MOST: usize = STORE_SIZE * DESKS_MOST;
 
 pub const SIZE_LEAST: usize = 14;
 

@@ -9,7 +9,7 @@ use Rattle.style.specs.Shown as S
 use Rattle.desk.specs.declared.Shares.{Shares}
 use Rattle.desk.specs.Desk.{After, newestOf}
 use Rattle.desk.specs.Effects.{unheard}
-use Rattle.relay.specs.Relay.{Tables, within, sharesOf, ordered, Done, Released}
+use Rattle.relay.specs.Relay.{Tables, placesOf, sharesOf, ordered, Done, Released}
 use Rattle.good.specs.Good.{Good, no-stranger, no-lack, receive-good, give-up-good}
 use Rattle.good.specs.View.{View, view, ownIn, seenAfter, receives, givesUp, receive-others, give-up-others, receive-is, receive-own, give-up-is, give-up-own, lookup-is}
 use Rattle.peace.specs.Run.{Call, receive, give-up, lookup, caller, Got, answered, released, shown, got, next, run, to, only, arrives, reaches, Few, Modest}
@@ -52,12 +52,12 @@ Frugal v (c ∷ cs) = Sparing v c × Frugal (own-view v c) cs
 
 -- ---- what one call does, of whatever desk it is
 pub next-good : (n : ℕ) (s : Tables) → Good n s → (c : Call) → Good n (next n s c)
-next-good n s g (receive desk time rest out) = receive-good n s g desk time rest out
+next-good n s g (receive desk time rest out) = receive-good n s g desk time _ out
 next-good n s g (give-up desk time) = give-up-good n s g _ time
 next-good n s g (lookup desk index book) = g
 
 pub next-other : (n : ℕ) (s : Tables) → Good n s → (c : Call) (d : ℕ) → (caller c ≡ d → ⊥) → view n d (next n s c) ≡ view n d s
-next-other n s g (receive desk time rest out) d q = receive-others n s g desk time rest out d (λ e. q (sym e))
+next-other n s g (receive desk time rest out) d q = receive-others n s g desk time _ out d (λ e. q (sym e))
 next-other n s g (give-up desk time) d q = give-up-others n s g desk time d (λ e. q (sym e))
 next-other n s g (lookup desk index book) d q = refl
 
@@ -78,14 +78,14 @@ module _ (n : ℕ) (s : Tables) (g : Good n s) where
   next-own : (c : Call) → caller c < n → Sparing (view n (caller c) s) c → view n (caller c) (next n s c) ≡ own-view (view n (caller c) s) c
   next-own (receive desk time rest out) h k =
       receive-own n s g desk h time rest out
-      ∙ ap (λ (a : After). seenAfter (view n desk s) time (a .own)) (unheard-alone (sharesOf n desk (within n s)) (view n desk s) desk time rest out refl k)
+      ∙ ap (λ (a : After). seenAfter (view n desk s) time (a .own)) (unheard-alone (sharesOf n desk (placesOf n s)) (view n desk s) desk time rest out refl k)
   next-own (give-up desk time) h k = give-up-own n s g desk h time
   next-own (lookup desk index book) h k = refl
 
   got-own : (c : Call) → caller c < n → Sparing (view n (caller c) s) c → got n s c ≡ own-got (view n (caller c) s) c
   got-own (receive desk time rest out) h k =
       ap (λ (r : Done). answered (r .answer) (r .out)) (receive-is n s g desk h time rest out)
-      ∙ ap (λ (a : After). answered (a .answer) (a .own .out)) (unheard-alone (sharesOf n desk (within n s)) (view n desk s) desk time rest out refl k)
+      ∙ ap (λ (a : After). answered (a .answer) (a .own .out)) (unheard-alone (sharesOf n desk (placesOf n s)) (view n desk s) desk time rest out refl k)
   got-own (give-up desk time) h k = ap (λ (r : Released). released (r .answer)) (give-up-is n s g desk h time)
   got-own (lookup desk index book) h k = ap shown (lookup-is n s g desk h index book)
 

@@ -6,6 +6,7 @@ use mathlib.Core.Path.{_≡_, refl, sym, ap, _∙_}
 use mathlib.Core.Bool.{Bool, true, false, not, true≢false}
 use mathlib.Core.Logic.{_⊎_, inl, inr, ⊎-elim, _≢_}
 use mathlib.Core.List.{List}
+use Rattle.laws.specs.Exactly.{Exactly}
 use Rattle.laws.specs.Rows.{_⇒_⁏_, _<?_, _=?_, yes, no, lt, ge, eq, lt-of, ge-of, eq-of, ne-of}
 use Rattle.paper.specs.Limits.{ownPlaces, openMost, common}
 use Rattle.paper.specs.Words.{numberOf}
@@ -22,14 +23,10 @@ use Rattle.sample.specs.Place.{kept}
 use Rattle.desk.specs.declared.Shares.{Shares}
 use Rattle.desk.specs.Desk.{Own, After, refuse, six, usedUp, completed, joining, taken, received}
 use Rattle.desk.specs.Effects.{asksPart, asks}
-use Rattle.relay.specs.Relay.{Tables, within, ownOf, sharesOf, ordered, receivedAt}
+use Rattle.relay.specs.Relay.{Tables, placesOf, ownOf, sharesOf, ordered, receivedAt}
 use Rattle.good.specs.Fair.{Passed}
 use Rattle.good.specs.Served.{Serves, let-through}
 use Rattle.peace.specs.Run.{receive, reaches}
-
--- the one exactly if the other
-abbrev pub Exactly : (A B : Type 0) → Type 0
-Exactly A B = (A → B) × (B → A)
 
 -- six open; two to five open, and the common places used up
 abbrev pub Full : Shares → Type 0
@@ -89,7 +86,7 @@ module _ (h : Shares) (s : Own) (time used next : ℕ) (q : Place) (x : P.Part) 
 -- ---- a call
 module _ (n : ℕ) (s : Tables) (desk time : ℕ) (rest out : List ℕ) where
   abbrev pub shares : Shares
-  shares = sharesOf n desk (within n s)
+  shares = sharesOf n desk (placesOf n s)
 
   abbrev pub Asking : Type 0
   Asking = reaches n s (receive desk time rest out) ≡ true
@@ -121,8 +118,8 @@ module _ (n : ℕ) (s : Tables) (desk time : ℕ) (rest out : List ℕ) where
   neither k = let-through n s desk time rest out (λ a b c. k (sym (no _ _ a (no _ _ b (sym c)))))
 
   -- whoever is answered 8 or 9 reached the test and was not let through
-  told : (r : Refusal) → outcome ≡ O.Refused r → ((numberOf r ≢ 8) × (numberOf r ≢ 9) → ⊥) → Asking × (Full shares ⊎ Spent shares)
-  told r e k = go (reaches n s (receive desk time rest out)) refl
+  by-shares : (r : Refusal) → outcome ≡ O.Refused r → ((numberOf r ≢ 8) × (numberOf r ≢ 9) → ⊥) → Asking × (Full shares ⊎ Spent shares)
+  by-shares r e k = go (reaches n s (receive desk time rest out)) refl
     where
       go : (b : Bool) → reaches n s (receive desk time rest out) ≡ b → Asking × (Full shares ⊎ Spent shares)
       go false l = absurd (k (neither (λ a. absurd (true≢false (sym a ∙ l))) r e))
@@ -141,7 +138,7 @@ module _ (n : ℕ) (s : Tables) (desk time : ℕ) (rest out : List ℕ) where
       absurd (omega arith)
 
   pub eight : Exactly (outcome ≡ O.Refused R.Six) (Asking × Full shares)
-  eight = (λ e. let w = told R.Six e (λ k. k .0 refl) in (w .0, ⊎-elim (λ f. f) (λ f. not-both e (is-nine (w .0) f)) (w .1)), λ w. is-eight (w .0) (w .1))
+  eight = (λ e. let w = by-shares R.Six e (λ k. k .0 refl) in (w .0, ⊎-elim (λ f. f) (λ f. not-both e (is-nine (w .0) f)) (w .1)), λ w. is-eight (w .0) (w .1))
 
   pub nine : Exactly (outcome ≡ O.Refused R.Common) (Asking × Spent shares)
-  nine = (λ e. let w = told R.Common e (λ k. k .1 refl) in (w .0, ⊎-elim (λ f. not-both (is-eight (w .0) f) e) (λ f. f) (w .1)), λ w. is-nine (w .0) (w .1))
+  nine = (λ e. let w = by-shares R.Common e (λ k. k .1 refl) in (w .0, ⊎-elim (λ f. not-both (is-eight (w .0) f) e) (λ f. f) (w .1)), λ w. is-nine (w .0) (w .1))

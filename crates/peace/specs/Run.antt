@@ -14,7 +14,7 @@ use Rattle.desk.specs.declared.GivenUp.{GivenUp}
 use Rattle.desk.specs.Desk.{Own}
 use Rattle.desk.specs.Effects.{asks}
 use Rattle.table.specs.Table.{mine}
-use Rattle.relay.specs.Relay.{Tables, within, ownOf, stranger, lacking, receivedAt, givenUpAt, lookedUp}
+use Rattle.relay.specs.Relay.{Tables, placesOf, ownOf, stranger, lacking, receivedAt, givenUpAt, lookedUp}
 
 -- ---- a call with all that it is handed, the output and the style book lent for it included
 pub data Call : Type 0 where
@@ -78,4 +78,4 @@ Few opens = opens < ownPlaces
 
 abbrev pub Modest : (n d : ℕ) → Tables → List Call → Type 0
 Modest n d s [] = Unit {0}
-Modest n d s (c ∷ cs) = (caller c ≡ d → reaches n s c ≡ true → Few (count (mine d) (within n s))) × Modest n d (next n s c) cs
+Modest n d s (c ∷ cs) = (caller c ≡ d → reaches n s c ≡ true → Few (count (mine d) (placesOf n s))) × Modest n d (next n s c) cs

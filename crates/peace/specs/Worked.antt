@@ -9,7 +9,7 @@ use mathlib.Core.List.{List, [], _∷_, _++_, flatten}
 use lib.Count.{ones}
 use lib.ListN.{replicate}
 use lib.Seq.{sets}
-use Rattle.laws.specs.Rows.{_⇒_⁏_, _or_, _<?_, _=?_}
+use Rattle.laws.specs.Rows.{_⇒_⁏_, _<?_, _=?_}
 use Rattle.paper.specs.Limits.{sampleMost}
 use Rattle.paper.specs.declared.Refusal.the-variants as R
 use Rattle.paper.specs.declared.Outcome.{Outcome}
@@ -21,7 +21,7 @@ use Rattle.finished.specs.Times.{among, markedRow, markedUsed}
 use Rattle.desk.specs.declared.GivenUp.the-variants.{Freed}
 use Rattle.desk.specs.Desk.{says, facts, laterPart, sampleOf, conflicts, six, usedUp, completed, joining, received, givenUp}
 use Rattle.desk.specs.Effects.{asksPart}
-use Rattle.relay.specs.Relay.{Tables, standsAt, improper, stranger, short, freshMarks, setUp, ordered, receivedAt, yielded, givenUpAt, lacking}
+use Rattle.relay.specs.Relay.{Tables, standsAt, improper, stranger, short, freshMarks, setUp, ready, ordered, receivedAt, yielded, givenUpAt}
 use Rattle.good.specs.Good.{set-up-good}
 use Rattle.good.specs.View.{View, view}
 use Rattle.good.specs.Fresh.{freshView, set-up-view, Exact, exactTables, set-up-exact}
@@ -46,8 +46,8 @@ blank = replicate sampleMost 0
 abbrev opens : (desk time : ℕ) → Call
 opens desk time = receive desk time first blank
 
-abbrev told : (time : ℕ) → Outcome → Got
-told time x = answered (says 12 time x) blank
+abbrev hears : (time : ℕ) → Outcome → Got
+hears time x = answered (says 12 time x) blank
 
 -- ---- a quiet desk opens two, completes one and gives the other up
 abbrev quiet : (desk : ℕ) → List Call
@@ -55,7 +55,7 @@ quiet desk = opens desk 1 ∷ opens desk 2 ∷ receive desk 1 second blank ∷ g
 
 abbrev quiet-gets : List Got
 quiet-gets =
-    told 1 (O.Kept 1) ∷ told 2 (O.Kept 1) ∷ answered (says 19 101 (O.Joined (facts 1 0 128 100 2 14))) (sets blank 0 sample) ∷ released Freed ∷ []
+    hears 1 (O.Kept 1) ∷ hears 2 (O.Kept 1) ∷ answered (says 19 101 (O.Joined (facts 1 0 128 100 2 14))) (sets blank 0 sample) ∷ released Freed ∷ []
 
 -- a greedy one opens all that it can: six, and its seventh gets 8
 abbrev greedy : List Call
@@ -63,7 +63,7 @@ greedy = opens 0 1 ∷ opens 0 2 ∷ opens 0 3 ∷ opens 0 4 ∷ opens 0 5 ∷ o
 
 abbrev greedy-gets : List Got
 greedy-gets =
-    told 1 (O.Kept 1) ∷ told 2 (O.Kept 1) ∷ told 3 (O.Kept 1) ∷ told 4 (O.Kept 1) ∷ told 5 (O.Kept 1) ∷ told 6 (O.Kept 1) ∷ told 7 (O.Refused R.Six) ∷ []
+    hears 1 (O.Kept 1) ∷ hears 2 (O.Kept 1) ∷ hears 3 (O.Kept 1) ∷ hears 4 (O.Kept 1) ∷ hears 5 (O.Kept 1) ∷ hears 6 (O.Kept 1) ∷ hears 7 (O.Refused R.Six) ∷ []
 
 -- both at one relay, where the greedy one gives one up and takes another
 abbrev both : List Call
@@ -80,8 +80,8 @@ Peaceful s = (to 1 (run 2 s both) ≡ quiet-gets) × (to 1 (run 2 s (quiet 1)) �
 abbrev Crowded : Tables → Type 0
 Crowded s =
     (to 0 (run 2 s (greedy ++ three)) ≡ greedy-gets)
-    × ((to 1 (run 2 s (greedy ++ three)) ≡ told 1 (O.Kept 1) ∷ told 2 (O.Kept 1) ∷ told 3 (O.Refused R.Common) ∷ [])
-    × (to 1 (run 2 s three) ≡ told 1 (O.Kept 1) ∷ told 2 (O.Kept 1) ∷ told 3 (O.Kept 1) ∷ []))
+    × ((to 1 (run 2 s (greedy ++ three)) ≡ hears 1 (O.Kept 1) ∷ hears 2 (O.Kept 1) ∷ hears 3 (O.Refused R.Common) ∷ [])
+    × (to 1 (run 2 s three) ≡ hears 1 (O.Kept 1) ∷ hears 2 (O.Kept 1) ∷ hears 3 (O.Kept 1) ∷ []))
 
 -- alone, the quiet desk has none open at its first call and one at its second, and its others ask for no place
 computed : Peaceful (exactTables 2) × (Crowded (exactTables 2) × (Frugal freshView (quiet 7) × (alone freshView (quiet 7) ≡ quiet-gets)))
@@ -103,7 +103,7 @@ pub case-10 : (s : Tables) → Exact 2 s → Crowded (setUp 2 s .tables)
 case-10 s x = subst Crowded (sym (set-up-exact 2 s two-is-proper x)) (computed .1 .0)
 
 -- ---- in any lent memory, among seven others: whatever they do, desk 7 gets this
-pub among-seven : (s : Tables) → (improper 8 or lacking 8 s) ≡ false → (xs : List Call) → only 7 xs ≡ quiet 7
+pub among-seven : (s : Tables) → setUp 8 s .answer ≡ ready 8 → (xs : List Call) → only 7 xs ≡ quiet 7
     → to 7 (run 8 (setUp 8 s .tables) xs) ≡ quiet-gets
 among-seven s e xs q =
     let h : 7 < 8 = omega arith in

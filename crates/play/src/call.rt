@@ -4,6 +4,9 @@ use desk::GivenUp;
 use desk::Shares;
 use paper::Facts;
 use paper::Outcome;
+use paper::limits::FINISHED_MOST;
+use paper::limits::SAMPLE_MOST;
+use paper::limits::STORE_SIZE;
 use sample::Place;
 
 const SHOWN_MOST: usize = 20;
@@ -12,10 +15,10 @@ const SHOWN_MOST: usize = 20;
 pub(crate) struct Desk {
     pub(crate) place: Place,
     pub(crate) other: Place,
-    pub(crate) row: [u32; 16],
+    pub(crate) row: [u32; FINISHED_MOST],
     pub(crate) marks: [u32; 2],
-    pub(crate) store: [u8; 16640],
-    pub(crate) out: [u8; 1024],
+    pub(crate) store: [u8; STORE_SIZE],
+    pub(crate) out: [u8; SAMPLE_MOST],
 }
 
 // A desk after set-up.
@@ -23,10 +26,10 @@ pub(crate) fn fresh() -> Desk {
     Desk {
         place: sample::closed(),
         other: sample::closed(),
-        row: [0; 16],
+        row: [0; FINISHED_MOST],
         marks: [0, 128],
-        store: [0; 16640],
-        out: [0xaa; 1024],
+        store: [0; STORE_SIZE],
+        out: [0xaa; SAMPLE_MOST],
     }
 }
 
@@ -125,10 +128,10 @@ fn desk_after(place: Place, marks: &[u32]) {
 fn take(
     h: Shares,
     place: Place,
-    row: &mut [u32; 16],
+    row: &mut [u32; FINISHED_MOST],
     marks: &mut [u32; 2],
-    store: &mut [u8; 16640],
-    out: &mut [u8; 1024],
+    store: &mut [u8; STORE_SIZE],
+    out: &mut [u8; SAMPLE_MOST],
     time: u32,
     rest: &[u8],
 ) -> Place {

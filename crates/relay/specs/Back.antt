@@ -11,7 +11,7 @@ use Rattle.laws.specs.Rows.{_⇒_⁏_, _or_, _and_, _<?_, each, no, ge, lt-of, 
 use Rattle.laws.specs.Region.{splice, splice-part}
 use Rattle.laws.specs.Table.{seek, count, seek-hit}
 use Rattle.laws.specs.Sums.{sum-same}
-use Rattle.laws.specs.Lists.{getD-listed}
+use Rattle.laws.specs.Lists.{getD-enumerated}
 use Rattle.paper.specs.Limits.{placesEach, finishedMost, marksEach, storeSize, desksMost, ownPlaces, places}
 use Rattle.sample.specs.declared.Place.{Place}
 use Rattle.sample.specs.Place.{bare, closed}
@@ -25,9 +25,9 @@ use Rattle.table.specs.Table.{mine, isAt, seen, loaded, stored}
 use Rattle.table.specs.Lengths.{length-stored}
 use Rattle.table.specs.declared.Seen.{Seen}
 use Rattle.table.specs.Turn.{opens-le}
-use Rattle.relay.specs.Relay.{Tables, tables, within, rowOf, marksOf, storeOf, commonUse, sharesOf, openAt, ownOf, standsAt, placed, putBack, stranger, lacking, Done, done, ordered, settled, receivedAt, Released, released, yielded, returned, lacksThree, givenUpAt}
+use Rattle.relay.specs.Relay.{Tables, tables, placesOf, rowOf, marksOf, storeOf, commonUse, sharesOf, openAt, ownOf, standsAt, placed, putBack, stranger, lacking, Done, done, ordered, settled, receivedAt, Released, released, yielded, returned, lacksThree, givenUpAt}
 use Rattle.relay.specs.Steps.{proper, three-long, all-long}
-use Rattle.relay.specs.Plan.{Plan, reachOf, commonSeen, sharesSeen, Few, aimOf, plan, planned, yielding}
+use Rattle.relay.specs.Plan.{Plan, reachOf, commonSeen, sharesSeen, Bounded, aimOf, plan, planned, yielding}
 
 -- ---- the desk's sample put back where it stood changes nothing
 placed-open : (d t : ℕ) (l : List Place) → placed d t (openAt d t l) l ≡ l
@@ -48,8 +48,8 @@ put-same n s desk time out = λ i. record {
   stores = splice-part (storeSize * desk) storeSize (s .stores) i;
 }
   where
-    all : placed desk time (openAt desk time (within n s)) (within n s) ++ drop (places n) (s .places) ≡ s .places
-    all = ap (λ (l : List Place). l ++ drop (places n) (s .places)) (placed-open desk time (within n s)) ∙ take-append-drop (places n) (s .places)
+    all : placed desk time (openAt desk time (placesOf n s)) (placesOf n s) ++ drop (places n) (s .places) ≡ s .places
+    all = ap (λ (l : List Place). l ++ drop (places n) (s .places)) (placed-open desk time (placesOf n s)) ∙ take-append-drop (places n) (s .places)
 
 -- ---- a pass over the first m places, a load and a store
 module _ (m desk time : ℕ) (l : List Place) where
@@ -107,16 +107,16 @@ module _ (m desk time : ℕ) (l : List Place) where
 common-seen : (n desk time : ℕ) (l : List Place) → n ≤ desksMost → commonSeen (seen desk time l .opens) n ≡ commonUse n l
 common-seen n desk time l h =
     sum-same n (λ (e : ℕ). getD (seen desk time l .opens) e 0 - ownPlaces) (λ (e : ℕ). count (mine e) l - ownPlaces)
-    (λ e k. ap (λ (c : ℕ). c - ownPlaces) (getD-listed desksMost (λ (e : ℕ). count (mine e) l) e 0 (omega arith)))
+    (λ e k. ap (λ (c : ℕ). c - ownPlaces) (getD-enumerated desksMost (λ (e : ℕ). count (mine e) l) e 0 (omega arith)))
 
 shares-seen : (n desk time : ℕ) (l : List Place) → n ≤ desksMost → desk < n → sharesSeen (seen desk time l) n desk ≡ sharesOf n desk l
-shares-seen n desk time l h k = rw (common-seen n desk time l h, getD-listed desksMost (λ (e : ℕ). count (mine e) l) desk 0 (omega arith))
+shares-seen n desk time l h k = rw (common-seen n desk time l h, getD-enumerated desksMost (λ (e : ℕ). count (mine e) l) desk 0 (omega arith))
 
 reach-all : (n : ℕ) → n ≤ desksMost → reachOf n ≡ places n
 unfolding reachOf
 reach-all n h = sym (no _ _ (ge _ _ h) refl)
 
-pub few-seen : (n desk time : ℕ) (l : List Place) → Few (seen desk time (take (reachOf n) l) .opens)
+pub few-seen : (n desk time : ℕ) (l : List Place) → Bounded (seen desk time (take (reachOf n) l) .opens)
 unfolding reachOf
 few-seen n desk time l e =
     each (λ (m : ℕ). getD (seen desk time (take m l) .opens) e 0 ≤ places desksMost) _ _ _
@@ -140,18 +140,18 @@ module _ (n : ℕ) (s : Tables) (desk time : ℕ) where
   pub length-after : (p : Place) → length (after p) ≡ length (s .places)
   length-after p = length-stored (reachOf n) (aimOf sight (reachOf n) p) p (s .places)
 
-  after-placed : (p : Place) → n ≤ desksMost → placesEach * n ≤ length (s .places) → after p ≡ placed desk time p (within n s) ++ drop (places n) (s .places)
+  after-placed : (p : Place) → n ≤ desksMost → placesEach * n ≤ length (s .places) → after p ≡ placed desk time p (placesOf n s) ++ drop (places n) (s .places)
   after-placed p h k = rw (reach-all n h) (store-placed (places n) desk time (s .places) p k)
 
   -- what is refused leaves all as it stood
   after-same : after sample ≡ s .places
   after-same = store-same (reachOf n) desk time (s .places)
 
-  sample-is : n ≤ desksMost → sample ≡ openAt desk time (within n s)
+  sample-is : n ≤ desksMost → sample ≡ openAt desk time (placesOf n s)
   sample-is h = rw (reach-all n h)
 
-  shares-are : n ≤ desksMost → desk < n → sharesSeen sight n desk ≡ sharesOf n desk (within n s)
-  shares-are h k = ap (λ (m : ℕ). sharesSeen (seen desk time (take m (s .places))) n desk) (reach-all n h) ∙ shares-seen n desk time (within n s) h k
+  shares-are : n ≤ desksMost → desk < n → sharesSeen sight n desk ≡ sharesOf n desk (placesOf n s)
+  shares-are h k = ap (λ (m : ℕ). sharesSeen (seen desk time (take m (s .places))) n desk) (reach-all n h) ∙ shares-seen n desk time (placesOf n s) h k
 
   abbrev acted : After → Done
   acted a =
@@ -174,7 +174,7 @@ module _ (n : ℕ) (s : Tables) (desk time : ℕ) where
     where
       go : (one : Bool) → (stranger n desk or lacking n s) ≡ one
           → acted (ordered one (sharesSeen sight n desk) (its out) desk time rest)
-          ≡ settled n s desk time (ordered one (sharesOf n desk (within n s)) (ownOf n s desk time out) desk time rest)
+          ≡ settled n s desk time (ordered one (sharesOf n desk (placesOf n s)) (ownOf n s desk time out) desk time rest)
       go true e = acted-same out ∙ ap (λ (t : Tables). done t out (says 0 time (O.Refused R.Desk))) (sym (put-same n s desk time out))
       go false e =
           let a = or-none _ _ e in
@@ -183,7 +183,7 @@ module _ (n : ℕ) (s : Tables) (desk time : ℕ) where
           acted-is (ordered false (sharesSeen sight n desk) (its out) desk time rest) (p .0) (l .0 .0)
           ∙ ap (settled n s desk time)
           (ap (λ (h : Shares). ordered false h (its out) desk time rest) (shares-are (p .0) (p .1))
-          ∙ ap (λ (y : Place). ordered false (sharesOf n desk (within n s)) (own y (rowOf desk (s .rows)) (marksOf desk (s .marks)) (storeOf desk (s .stores)) out) desk time rest) (sample-is (p .0)))
+          ∙ ap (λ (y : Place). ordered false (sharesOf n desk (placesOf n s)) (own y (rowOf desk (s .rows)) (marksOf desk (s .marks)) (storeOf desk (s .stores)) out) desk time rest) (sample-is (p .0)))
 
   -- a call that leaves the sample as it stood leaves the places as they stood
   pub passed-is : (rest out : List ℕ) (r : Answer) (rows marks stores out′ : List ℕ)
@@ -234,7 +234,7 @@ module _ (n : ℕ) (s : Tables) (desk time : ℕ) where
           let a = or-none _ _ e in
           let p = proper n desk (a .0) in
           let l = three-long n (length (s .places)) (length (s .rows)) (length (s .marks)) (a .1) in
-          rw (sample-is (p .0)) (let-go-is (openAt desk time (within n s)) (p .0) (l .0))
+          rw (sample-is (p .0)) (let-go-is (openAt desk time (placesOf n s)) (p .0) (l .0))
 
 -- give-up does not look at the stores
 pub given-up-any : (n : ℕ) (l : List Place) (rows marks stores : List ℕ) (desk time : ℕ)

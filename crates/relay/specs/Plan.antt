@@ -32,8 +32,8 @@ abbrev pub sharesSeen : Seen → (n desk : ℕ) → Shares
 sharesSeen e n desk = record { opens = getD (e .opens) desk 0; common = commonSeen (e .opens) n; desks = n }
 
 -- no desk has more open samples than there can be places
-abbrev pub Few : (opens : List ℕ) → Type 0
-Few opens = (e : ℕ) → getD opens e 0 ≤ places desksMost
+abbrev pub Bounded : (opens : List ℕ) → Type 0
+Bounded opens = (e : ℕ) → getD opens e 0 ≤ places desksMost
 
 -- where the desk's sample is stored; past the m places looked at where there is none to store
 unfoldable pub aimOf : Seen → (m : ℕ) → Place → ℕ

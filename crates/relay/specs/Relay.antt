@@ -10,6 +10,7 @@ use Rattle.laws.specs.Region.{part, splice}
 use Rattle.laws.specs.Table.{seek, count}
 use Rattle.laws.specs.Sums.{sum}
 use Rattle.paper.specs.Limits.{sampleMost, finishedMost, inBand, desksMost, ownPlaces, placesEach, marksEach, storeSize, places}
+use Rattle.paper.specs.Words.{numberOf}
 use Rattle.paper.specs.declared.Refusal.the-variants as R
 use Rattle.paper.specs.declared.Answer.{Answer}
 use Rattle.sample.specs.declared.Place.{Place}
@@ -34,8 +35,8 @@ abbrev pub tables : List Place → (rows marks stores : List ℕ) → Tables
 tables places rows marks stores = record { places = places; rows = rows; marks = marks; stores = stores }
 
 -- the 4n places
-abbrev pub within : (n : ℕ) → Tables → List Place
-within n s = take (places n) (s .places)
+abbrev pub placesOf : (n : ℕ) → Tables → List Place
+placesOf n s = take (places n) (s .places)
 
 -- a desk's own row of finished times, marks and store
 abbrev pub rowOf : (desk : ℕ) → List ℕ → List ℕ
@@ -53,7 +54,7 @@ openAt desk time l = getD l (seek (isAt desk time) l) closed
 
 abbrev pub ownOf : (n : ℕ) → Tables → (desk time : ℕ) → (out : List ℕ) → Own
 ownOf n s desk time out =
-    own (openAt desk time (within n s)) (rowOf desk (s .rows)) (marksOf desk (s .marks)) (storeOf desk (s .stores)) out
+    own (openAt desk time (placesOf n s)) (rowOf desk (s .rows)) (marksOf desk (s .marks)) (storeOf desk (s .stores)) out
 
 -- ---- the shares: the common use is the sum, over all desks, of open samples beyond two
 abbrev pub commonUse : (n : ℕ) → List Place → ℕ
@@ -76,7 +77,7 @@ placed desk time p l = set l (standsAt desk time p l) p
 -- the desk's own things put back; what lies beyond the 4n places is not touched
 abbrev pub putBack : (n : ℕ) → Tables → (desk time : ℕ) → Own → Tables
 putBack n s desk time o =
-    tables (placed desk time (o .place) (within n s) ++ drop (places n) (s .places))
+    tables (placed desk time (o .place) (placesOf n s) ++ drop (places n) (s .places))
     (splice (finishedMost * desk) finishedMost (o .row) (s .rows)) (splice (marksEach * desk) marksEach (o .marks) (s .marks))
     (splice (storeSize * desk) storeSize (o .store) (s .stores))
 
@@ -102,7 +103,7 @@ abbrev pub lacking : (n : ℕ) → Tables → Bool
 lacking n s = lacks n (length (s .places)) (length (s .rows)) (length (s .marks)) (length (s .stores))
 
 -- ---- set-up: exactly what n desks need is made fresh
-pub record Made : Type 0 where
+pub record Prepared : Type 0 where
   pub tables : Tables
   pub answer : Started
 
@@ -116,13 +117,22 @@ freshTables n s =
     tables (sets (s .places) 0 (replicate (places n) closed)) (sets (s .rows) 0 (replicate (finishedMost * n) 0))
     (sets (s .marks) 0 (freshMarks n)) (sets (s .stores) 0 (replicate (storeSize * n) 0))
 
-abbrev pub made : Tables → Started → Made
-made s a = record { tables = s; answer = a }
+abbrev pub prepared : Tables → Started → Prepared
+prepared s a = record { tables = s; answer = a }
 
-unfoldable pub setUp : (n : ℕ) → Tables → Made
+-- not refused: what the later calls take
+abbrev pub ready : (n : ℕ) → Started
+ready n = Ready (record { desks = n })
+
+-- 0, or the refusal's number; the desks are those that set-up was asked for
+abbrev pub startedNumber : Started → ℕ
+startedNumber (Ready r) = 0
+startedNumber (Refused r) = numberOf r
+
+unfoldable pub setUp : (n : ℕ) → Tables → Prepared
 setUp n s =
-    improper n or lacking n s ⇒ made s (Refused R.Desk)
-    ⁏ made (freshTables n s) (Ready (record { desks = n }))
+    improper n or lacking n s ⇒ prepared s (Refused R.Desk)
+    ⁏ prepared (freshTables n s) (ready n)
 
 -- ---- receive: 1, 2, then the desk's own order
 pub record Done : Type 0 where
@@ -147,7 +157,7 @@ settled n s desk time a = done (putBack n s desk time (a .own)) (a .own .out) (a
 unfoldable pub receivedAt : (n : ℕ) → Tables → (desk time : ℕ) → (rest out : List ℕ) → Done
 receivedAt n s desk time rest out =
     settled n s desk time
-    (ordered (stranger n desk or lacking n s) (sharesOf n desk (within n s)) (ownOf n s desk time out) desk time rest)
+    (ordered (stranger n desk or lacking n s) (sharesOf n desk (placesOf n s)) (ownOf n s desk time out) desk time rest)
 
 -- ---- give-up: 1, 11, or the place is freed and the time marked. It is lent no store and no output
 pub record Released : Type 0 where

@@ -10,20 +10,20 @@ use Rattle.paper.specs.Limits.{finishedMost, desksMost, storeSize}
 use Rattle.paper.specs.declared.Refusal.the-variants as R
 use Rattle.table.specs.Table.{cleared}
 use Rattle.relay.specs.declared.Started.the-variants.{Ready, Refused}
-use Rattle.relay.specs.Relay.{Tables, tables, improper, lacking, Made, made, freshMarks, freshTables, setUp}
+use Rattle.relay.specs.Relay.{Tables, tables, improper, lacking, Prepared, prepared, freshMarks, freshTables, setUp}
 use Rattle.relay.specs.Plan.{reachOf, fitting, startedOf}
 
 module _ (n : ℕ) (s : Tables) where
-  abbrev pub madeOf : ℕ → Made
+  abbrev pub madeOf : ℕ → Prepared
   madeOf k =
-      made (tables (cleared (reachOf k) (s .places)) (sets (s .rows) 0 (replicate (finishedMost * k) 0)) (sets (s .marks) 0 (freshMarks k))
+      prepared (tables (cleared (reachOf k) (s .places)) (sets (s .rows) 0 (replicate (finishedMost * k) 0)) (sets (s .marks) 0 (freshMarks k))
       (sets (s .stores) 0 (replicate (storeSize * k) 0))) (startedOf k)
 
-  made-none : madeOf 0 ≡ made s (Refused R.Desk)
+  made-none : madeOf 0 ≡ prepared s (Refused R.Desk)
   unfolding reachOf startedOf freshMarks _⇒_⁏_
   made-none = rw (eq 0 0 refl, ge 8 0 (omega arith))
 
-  made-all : improper n ≡ false → madeOf n ≡ made (freshTables n s) (Ready (record { desks = n }))
+  made-all : improper n ≡ false → madeOf n ≡ prepared (freshTables n s) (Ready (record { desks = n }))
   unfolding reachOf startedOf improper _⇒_⁏_
   made-all h = let p = or-none (n =? 0) (8 <? n) h in rw (p .0, p .1)
 
@@ -32,7 +32,7 @@ module _ (n : ℕ) (s : Tables) where
   set-up-is = go (improper n or lacking n s) refl
     where
       go : (one : Bool) → (improper n or lacking n s) ≡ one
-          → madeOf (one ⇒ 0 ⁏ n) ≡ (one ⇒ made s (Refused R.Desk) ⁏ made (freshTables n s) (Ready (record { desks = n })))
+          → madeOf (one ⇒ 0 ⁏ n) ≡ (one ⇒ prepared s (Refused R.Desk) ⁏ prepared (freshTables n s) (Ready (record { desks = n })))
       go true e = made-none
       go false e = made-all (or-none _ _ e .0)
 

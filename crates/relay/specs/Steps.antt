@@ -8,7 +8,7 @@ use lib.ListN.{length, getD, drop}
 use lib.Seq.{getD-take, getD-drop}
 use Rattle.laws.specs.Rows.{_⇒_⁏_, _or_, _<?_, yes, no, lt-of, ge-of, or-none}
 use Rattle.laws.specs.Region.{part, splice, splice-part}
-use Rattle.paper.specs.Limits.{sampleMost}
+use Rattle.paper.specs.Limits.{sampleMost, finishedMost, desksMost, placesEach, marksEach, storeSize}
 use Rattle.paper.specs.declared.Refusal.{Refusal}
 use Rattle.paper.specs.declared.Refusal.the-variants as R
 use Rattle.paper.specs.declared.Outcome.the-variants as O
@@ -18,7 +18,7 @@ use Rattle.desk.specs.declared.Shares.{Shares}
 use Rattle.desk.specs.declared.Turn.{Turn}
 use Rattle.desk.specs.declared.Freeing.{Freeing}
 use Rattle.desk.specs.declared.GivenUp.the-variants as G
-use Rattle.desk.specs.Desk.{Own, own, refuse, told, left, freed, newestOf, received, givenUp}
+use Rattle.desk.specs.Desk.{Own, own, refuse, answering, left, freed, newestOf, received, givenUp}
 use Rattle.table.specs.declared.Seen.{Seen}
 use Rattle.relay.specs.declared.Gate.{Gate}
 use Rattle.relay.specs.declared.Gate.the-variants.{Through, Shut}
@@ -34,6 +34,13 @@ other a b c h k = sym (no a true h (sym k))
 -- a part s[a..a + k] of k elements
 widths : (a k : ℕ) → a + k - a ≡ k
 widths a k = omega arith
+
+-- a desk's part of a table as the code lends it, and the table when it came back
+abbrev deskPart : (each desk : ℕ) → List ℕ → List ℕ
+deskPart each desk xs = part (each * desk) (each * desk + each - each * desk) xs
+
+abbrev deskBack : (each desk : ℕ) → (ys xs : List ℕ) → List ℕ
+deskBack each desk ys xs = splice (each * desk) (each * desk + each - each * desk) ys xs
 
 -- ---- the gate
 whyOf : Gate → Refusal
@@ -60,8 +67,13 @@ module _ (n len : ℕ) (e : Seen) (p : Place) (rows marks stores out : List ℕ)
   its = own p (rowOf desk rows) (marksOf desk marks) (storeOf desk stores) out
 
   -- what is refused is put back as it was
-  back : (r : Refusal) → plan (told p 0 time (O.Refused r)) rows marks stores out ≡ planOf desk rows marks stores (refuse its 0 time r)
-  back r = rw (splice-part (16 * desk) 16 rows, splice-part (2 * desk) 2 marks, splice-part (16640 * desk) 16640 stores)
+  back : (r : Refusal) → plan (answering p 0 time (O.Refused r)) rows marks stores out ≡ planOf desk rows marks stores (refuse its 0 time r)
+  back r =
+      rw (
+        splice-part (finishedMost * desk) finishedMost rows,
+        splice-part (marksEach * desk) marksEach marks,
+        splice-part (storeSize * desk) storeSize stores,
+      )
 
   abbrev barred : Bool
   barred = stranger n desk or lacks n len (length rows) (length marks) (length stores)
@@ -70,7 +82,7 @@ module _ (n len : ℕ) (e : Seen) (p : Place) (rows marks stores out : List ℕ)
   small = length out <? sampleMost
 
   module _ (g : Gate) (f : g ≡ gateOf n len (length rows) (length marks) (length stores) desk (length out)) where
-    pub step-shut : (why : Refusal) → g ≡ Shut why → (t : Turn) → t ≡ told p 0 time (O.Refused why)
+    pub step-shut : (why : Refusal) → g ≡ Shut why → (t : Turn) → t ≡ answering p 0 time (O.Refused why)
         → plan t rows marks stores out ≡ planned n len e p rows marks stores out desk time rest
     unfolding planned ordered gateOf _⇒_⁏_ isThrough whyOf
     step-shut why h t k =
@@ -85,17 +97,17 @@ module _ (n len : ℕ) (e : Seen) (p : Place) (rows marks stores out : List ℕ)
 
     pub step-through : g ≡ Through → (h : Shares) → h ≡ sharesSeen e n desk → (t : Turn) (row′ marks′ store′ out′ : List ℕ)
         → left t row′ marks′ store′ out′
-        ≡ received h (own p (part (16 * desk) (16 * desk + 16 - 16 * desk) rows) (part (2 * desk) (2 * desk + 2 - 2 * desk) marks)
-        (part (16640 * desk) (16640 * desk + 16640 - 16640 * desk) stores) out) desk time rest
-        → plan t (splice (16 * desk) (16 * desk + 16 - 16 * desk) row′ rows) (splice (2 * desk) (2 * desk + 2 - 2 * desk) marks′ marks)
-        (splice (16640 * desk) (16640 * desk + 16640 - 16640 * desk) store′ stores) out′
+        ≡ received h (own p (deskPart finishedMost desk rows) (deskPart marksEach desk marks)
+        (deskPart storeSize desk stores) out) desk time rest
+        → plan t (deskBack finishedMost desk row′ rows) (deskBack marksEach desk marks′ marks)
+        (deskBack storeSize desk store′ stores) out′
         ≡ planned n len e p rows marks stores out desk time rest
     unfolding planned ordered
     step-through l h k t row′ marks′ store′ out′ q =
         let c = clear n len (length rows) (length marks) (length stores) desk (length out) (sym f ∙ l) in
         let q′ : left t row′ marks′ store′ out′ ≡ received (sharesSeen e n desk) its desk time rest =
-        rw (widths (16 * desk) 16, widths (2 * desk) 2, widths (16640 * desk) 16640, k) at q in
-        rw (widths (16 * desk) 16, widths (2 * desk) 2, widths (16640 * desk) 16640)
+        rw (widths (finishedMost * desk) finishedMost, widths (marksEach * desk) marksEach, widths (storeSize * desk) storeSize, k) at q in
+        rw (widths (finishedMost * desk) finishedMost, widths (marksEach * desk) marksEach, widths (storeSize * desk) storeSize)
         (ap (planOf desk rows marks stores) (q′ ∙ no _ _ (c .0) (no _ _ (c .1) refl)))
 
 -- ---- give-up
@@ -104,7 +116,7 @@ module _ (n len : ℕ) (p : Place) (rows marks : List ℕ) (desk time : ℕ) whe
   hers = own p (rowOf desk rows) (marksOf desk marks) [] []
 
   held : yield (record { place = p; answer = G.Refused R.Desk }) rows marks ≡ yieldOf desk rows marks (record { own = hers; answer = G.Refused R.Desk })
-  held = rw (splice-part (16 * desk) 16 rows, splice-part (2 * desk) 2 marks)
+  held = rw (splice-part (finishedMost * desk) finishedMost rows, splice-part (marksEach * desk) marksEach marks)
 
   module _ (b : Bool) (f : b ≡ stranger n desk) where
     pub yield-stranger : b ≡ true → (r : Freeing) → r ≡ record { place = p; answer = G.Refused R.Desk } → yield r rows marks ≡ yielding n len p rows marks desk time
@@ -121,21 +133,22 @@ module _ (n len : ℕ) (p : Place) (rows marks : List ℕ) (desk time : ℕ) whe
 
       pub yield-through : d ≡ false → (r : Freeing) (row′ marks′ : List ℕ)
           → ((store out : List ℕ) → freed r row′ marks′ store out
-          ≡ givenUp (own p (part (16 * desk) (16 * desk + 16 - 16 * desk) rows) (part (2 * desk) (2 * desk + 2 - 2 * desk) marks) store out) time)
-          → yield r (splice (16 * desk) (16 * desk + 16 - 16 * desk) row′ rows) (splice (2 * desk) (2 * desk + 2 - 2 * desk) marks′ marks)
+          ≡ givenUp (own p (deskPart finishedMost desk rows) (deskPart marksEach desk marks) store out) time)
+          → yield r (deskBack finishedMost desk row′ rows) (deskBack marksEach desk marks′ marks)
           ≡ yielding n len p rows marks desk time
       unfolding yielding yielded
       yield-through enough r row′ marks′ q =
-          let q′ : freed r row′ marks′ [] [] ≡ givenUp hers time = rw (widths (16 * desk) 16, widths (2 * desk) 2) at (q [] []) in
-          rw (widths (16 * desk) 16, widths (2 * desk) 2)
+          let q′ : freed r row′ marks′ [] [] ≡ givenUp hers time =
+          rw (widths (finishedMost * desk) finishedMost, widths (marksEach * desk) marksEach) at (q [] []) in
+          rw (widths (finishedMost * desk) finishedMost, widths (marksEach * desk) marksEach)
           (ap (yieldOf desk rows marks) (q′ ∙ no _ _ (other _ _ _ (sym f ∙ known) (sym g ∙ enough)) refl))
 
 -- ---- what the tests tell of the sizes
-pub proper : (n desk : ℕ) → stranger n desk ≡ false → (n ≤ 8) × (desk < n)
+pub proper : (n desk : ℕ) → stranger n desk ≡ false → (n ≤ desksMost) × (desk < n)
 unfolding stranger improper
 proper n desk h =
     let k = or-none _ _ h in
-    (ge-of 8 n (or-none _ _ (k .0) .1), lt-of desk n (go (desk <? n) (k .1)))
+    (ge-of desksMost n (or-none _ _ (k .0) .1), lt-of desk n (go (desk <? n) (k .1)))
   where
     go : (b : Bool) → not b ≡ false → b ≡ true
     go true e = refl
@@ -145,18 +158,20 @@ pub long : (each n have : ℕ) → short each n have ≡ false → each * n ≤ 
 unfolding short
 long each n have h = ge-of have (each * n) h
 
-pub three-long : (n places rows marks : ℕ) → lacksThree n places rows marks ≡ false → (4 * n ≤ places) × ((16 * n ≤ rows) × (2 * n ≤ marks))
+pub three-long : (n places rows marks : ℕ) → lacksThree n places rows marks ≡ false
+    → (placesEach * n ≤ places) × ((finishedMost * n ≤ rows) × (marksEach * n ≤ marks))
 three-long n places rows marks h =
     let a = or-none _ _ h in
     let b = or-none _ _ (a .1) in
-    (long 4 n places (a .0), (long 16 n rows (b .0), long 2 n marks (b .1)))
+    (long placesEach n places (a .0), (long finishedMost n rows (b .0), long marksEach n marks (b .1)))
 
 pub all-long : (n places rows marks stores : ℕ) → lacks n places rows marks stores ≡ false
-    → ((4 * n ≤ places) × ((16 * n ≤ rows) × (2 * n ≤ marks))) × (16640 * n ≤ stores)
-all-long n places rows marks stores h = let a = or-none _ _ h in (three-long n places rows marks (a .0), long 16640 n stores (a .1))
+    → ((placesEach * n ≤ places) × ((finishedMost * n ≤ rows) × (marksEach * n ≤ marks))) × (storeSize * n ≤ stores)
+all-long n places rows marks stores h = let a = or-none _ _ h in (three-long n places rows marks (a .0), long storeSize n stores (a .1))
 
 pub fits-through : (n len rows marks stores desk out : ℕ) (g : Gate) → g ≡ gateOf n len rows marks stores desk out → g ≡ Through
-    → ((n ≤ 8) × (desk < n)) × (((4 * n ≤ len) × ((16 * n ≤ rows) × (2 * n ≤ marks))) × (16640 * n ≤ stores))
+    → ((n ≤ desksMost) × (desk < n))
+    × (((placesEach * n ≤ len) × ((finishedMost * n ≤ rows) × (marksEach * n ≤ marks))) × (storeSize * n ≤ stores))
 fits-through n len rows marks stores desk out g f h =
     let a = or-none _ _ (clear n len rows marks stores desk out (sym f ∙ h) .0) in
     (proper n desk (a .0), all-long n len rows marks stores (a .1))
@@ -167,19 +182,20 @@ module _ (n : ℕ) (marks stores : List ℕ) (desk index : ℕ) (book : List ℕ
   unfolding lookedUp
   look-stranger h = yes _ _ (either _ _ (sym f ∙ h)) refl
 
-  module _ (known : b ≡ false) (d : Bool) (g : d ≡ short 2 n (length marks)) where
+  module _ (known : b ≡ false) (d : Bool) (g : d ≡ short marksEach n (length marks)) where
     pub look-marks : d ≡ true → [] ≡ lookedUp n marks stores desk index book
     unfolding lookedUp
     look-marks h = yes _ _ (other _ _ _ (sym f ∙ known) (either _ _ (sym g ∙ h))) refl
 
-    module _ (enough : d ≡ false) (m : Bool) (w : m ≡ short 16640 n (length stores)) where
+    module _ (enough : d ≡ false) (m : Bool) (w : m ≡ short storeSize n (length stores)) where
       pub look-stores : m ≡ true → [] ≡ lookedUp n marks stores desk index book
       unfolding lookedUp
       look-stores h = yes _ _ (other _ _ _ (sym f ∙ known) (other _ _ _ (sym g ∙ enough) (sym w ∙ h))) refl
 
-      pub look-through : m ≡ false → (r store : List ℕ) (newest : ℕ) → store ≡ part (16640 * desk) 16640 stores → newest ≡ getD marks (2 * desk + 1) 0
-          → r ≡ shown book store newest index → r ≡ lookedUp n marks stores desk index book
+      pub look-through : m ≡ false → (r store : List ℕ) (newest : ℕ) → store ≡ part (storeSize * desk) storeSize stores
+          → newest ≡ getD marks (marksEach * desk + 1) 0 → r ≡ shown book store newest index → r ≡ lookedUp n marks stores desk index book
       unfolding lookedUp
       look-through h r store newest x y z =
-          let v : newestOf (marksOf desk marks) ≡ newest = getD-take 2 (drop (2 * desk) marks) 1 0 (omega arith) ∙ getD-drop (2 * desk) marks 1 0 ∙ sym y in
+          let v : newestOf (marksOf desk marks) ≡ newest =
+          getD-take marksEach (drop (marksEach * desk) marks) 1 0 (omega arith) ∙ getD-drop (marksEach * desk) marks 1 0 ∙ sym y in
           no _ _ (other _ _ _ (sym f ∙ known) (other _ _ _ (sym g ∙ enough) (sym w ∙ h))) (z ∙ rw (x, v))

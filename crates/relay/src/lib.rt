@@ -23,12 +23,12 @@ ghost use Prim.Native.Nat.{ℕ, _*_, _<_, _≤_};
 ghost use lib.ListN.{length, replicate};
 ghost use lib.Seq.{sets};
 ghost use Rattle.paper.specs.Limits.{finishedMost, desksMost, storeSize};
-ghost use Rattle.relay.specs.Relay.{tables, improper, stranger, short, lacks, lacksThree, freshMarks, made, setUp, done, receivedAt, released, givenUpAt, lookedUp};
+ghost use Rattle.relay.specs.Relay.{tables, improper, stranger, short, lacks, lacksThree, freshMarks, prepared, setUp, done, receivedAt, released, givenUpAt, lookedUp};
 ghost use Rattle.paper.specs.declared.Outcome.the-variants.{Refused};
 ghost use Rattle.laws.specs.Rows.{_and_, _<?_};
 ghost use Rattle.unit.specs.Layout.{readOf};
-ghost use Rattle.desk.specs.Desk.{says, told, turn, isPart};
-ghost use Rattle.relay.specs.Plan.{reachOf, commonSeen, sharesSeen, Few, aimOf, gateOf, plan, planned, yield, yielding, fitting, startedOf};
+ghost use Rattle.desk.specs.Desk.{says, answering, turn, isPart};
+ghost use Rattle.relay.specs.Plan.{reachOf, commonSeen, sharesSeen, Bounded, aimOf, gateOf, plan, planned, yield, yielding, fitting, startedOf};
 
 // What set-up hands to each later call: how many desks there are.
 pub struct Relay {
@@ -115,7 +115,7 @@ fn reach(n: usize) -> usize
 }
 
 fn common_use(opens: [usize; DESKS_MOST], n: usize) -> usize
-    requires { ⌜ Few opens × (n ≤ desksMost) ⌝ }
+    requires { ⌜ Bounded opens × (n ≤ desksMost) ⌝ }
     ensures { λ r. ⌜ r ≡ commonSeen opens n ⌝ }
 {
     let mut common = 0;
@@ -128,7 +128,7 @@ fn common_use(opens: [usize; DESKS_MOST], n: usize) -> usize
 }
 
 fn shares_of(seen: Seen, n: usize, desk: usize) -> Shares
-    requires { ⌜ Few (seen .opens) × (n ≤ desksMost) × (desk < n) ⌝ }
+    requires { ⌜ Bounded (seen .opens) × (n ≤ desksMost) × (desk < n) ⌝ }
     ensures { λ r. ⌜ r ≡ sharesSeen seen n desk ⌝ }
 {
     let opens = seen.opens;
@@ -197,7 +197,7 @@ fn refusal(time: u32, why: Refusal) -> Answer
 }
 
 fn refused(place: Place, time: u32, why: Refusal) -> Turn
-    ensures { λ r. ⌜ r ≡ told place 0 time (Refused why) ⌝ }
+    ensures { λ r. ⌜ r ≡ answering place 0 time (Refused why) ⌝ }
 {
     let answer = refusal(time, why);
     Turn { place, answer }
@@ -217,7 +217,7 @@ fn step(
     rest: &[u8],
     out: &mut [u8],
 ) -> Turn
-    requires { ⌜ Few (seen .opens) ⌝ }
+    requires { ⌜ Bounded (seen .opens) ⌝ }
     ensures { λ r. ⌜ plan r (now (rows .exit)) (now (marks .exit)) (now (stores .exit)) (now (out .exit)) ≡ planned n len seen place (now (rows .entry)) (now (marks .entry)) (now (stores .entry)) (now (out .entry)) desk time (now (rest .entry)) ⌝ }
 {
     let g = gate_of(n, len, rows, marks, stores, desk, out);
@@ -412,7 +412,7 @@ pub fn set_up(
     marks: &mut [u32],
     stores: &mut [u8],
 ) -> Started
-    ensures { λ r. ⌜ made (tables (now (places .exit)) (now (rows .exit)) (now (marks .exit)) (now (stores .exit))) r ≡ setUp n (tables (now (places .entry)) (now (rows .entry)) (now (marks .entry)) (now (stores .entry))) ⌝ }
+    ensures { λ r. ⌜ prepared (tables (now (places .exit)) (now (rows .exit)) (now (marks .exit)) (now (stores .exit))) r ≡ setUp n (tables (now (places .entry)) (now (rows .entry)) (now (marks .entry)) (now (stores .entry))) ⌝ }
 {
     let len = table::len(places);
     let r = rows.len();

@@ -1,4 +1,3 @@
-pub mod Sums
 pub mod Bits
 pub mod Stores
 pub mod Order

@@ -1,12 +1,13 @@
 -- The style book: records one after the other, no header. Assumes nothing.
 use Prim.Native.Nat.{ℕ, zero, suc, _+_, _-_, _/_}
-use mathlib.Core.List.{List, []}
+use mathlib.Core.List.{List, [], _∷_}
 use mathlib.Core.Bool.{Bool}
 use lib.ListN.{length}
 use Rattle.laws.specs.Rows.{_⇒_⁏_, _or_, _and_, _<?_, _=?_}
 use Rattle.laws.specs.Region.{part}
 use Rattle.octets.specs.Be.{u8At}
 use Rattle.paper.specs.Limits.{recordSize, descriptionMost, inBand, reserved}
+use Rattle.paper.specs.Words.{numberOf}
 use Rattle.paper.specs.declared.Refusal.the-variants.{Book}
 use Rattle.style.specs.declared.Checked.{Checked}
 use Rattle.style.specs.declared.Checked.the-variants.{Good, Refused}
@@ -44,6 +45,15 @@ unfoldable pub badRecord : List ℕ → ℕ → Bool
 badRecord book i = broken (recordAt book i) or falling book i
 
 -- ---- the check
+-- its answer: its number, 0 for a good book, and the value that goes with it, how many records there are or the first bad one's number
+abbrev pub checkedNumber : Checked → ℕ
+checkedNumber (Good n) = 0
+checkedNumber (Refused r i) = numberOf r
+
+abbrev pub checkedValues : Checked → List ℕ
+checkedValues (Good n) = n ∷ []
+checkedValues (Refused r i) = i ∷ []
+
 -- how many records there are, with one that is cut short
 abbrev pub countOf : List ℕ → ℕ
 countOf book = (length book + (recordSize - 1)) / recordSize

@@ -30,11 +30,6 @@ module _ {A : Type 0} where
       part-sets-other vs (set l k v) (suc k) b m (⊎-elim (λ w. inl (omega arith)) (λ w. inr (omega arith)) h)
       ∙ part-set-other l k v b m (⊎-elim (λ w. inl w) (λ w. inr (omega arith)) h)
 
-  -- what lies behind the stores is as it was
-  pub drop-sets-past : (vs l : List A) (k n : ℕ) → k + length vs ≤ n → drop n (sets l k vs) ≡ drop n l
-  drop-sets-past [] l k n h = refl
-  drop-sets-past (v ∷ vs) l k n h = drop-sets-past vs (set l k v) (suc k) n (omega arith) ∙ drop-set-lt n l k v (omega arith)
-
   drop-sets : (vs l : List A) (n i : ℕ) → drop n (sets l (n + i) vs) ≡ sets (drop n l) i vs
   drop-sets [] l n i = refl
   drop-sets (v ∷ vs) l n i =

@@ -10,24 +10,24 @@ use mathlib.Core.List.{List, _∷_, _++_, append-nil}
 use lib.ListN.{length, drop, replicate, length-replicate, drop-of-length-le}
 use lib.Seq.{sets, take-at, take-all, take-length, length-sets}
 use Rattle.laws.specs.Rows.{_⇒_⁏_, yes, no, lt, eq, lt-of, ge-of, eq-of, each, below, and-of, and-is, _<?_}
-use Rattle.laws.specs.Region.{part, length-part, length-part-le}
+use Rattle.laws.specs.Region.{part, length-part, length-part-le, drop-sets-past}
 use Rattle.octets.specs.Be.{be16}
 use Rattle.paper.specs.Limits.{recordSize, descriptionMost, inBand, window}
 use Rattle.style.specs.Record.{recordAt, indexOf, lengthOf, descriptionOf, blank, recordOf}
-use Rattle.style.specs.Store.{minus, within, moved, slot, carries, held, stays, forgottenAt, forgottenFrom, forgotten, stored}
-use Rattle.style.specs.Puts.{either, drop-sets-past, part-sets-other, part-sets-same, sets-front, zeros-at}
+use Rattle.style.specs.Store.{minus, inWindow, moved, slot, carries, held, stays, forgottenAt, forgottenFrom, forgotten, stored}
+use Rattle.style.specs.Puts.{either, part-sets-other, part-sets-same, sets-front, zeros-at}
 
 -- ---- the window
-pub within-of : (newest v : ℕ) → within newest v ≡ true → (newest < inBand) × ((v < inBand) × (minus newest v < window))
-unfolding within
-within-of newest v h =
+pub in-window-of : (newest v : ℕ) → inWindow newest v ≡ true → (newest < inBand) × ((v < inBand) × (minus newest v < window))
+unfolding inWindow
+in-window-of newest v h =
     let p = and-of _ _ h in
     let q = and-of _ _ (p .1) in
     (lt-of newest inBand (p .0), (lt-of v inBand (q .0), lt-of (minus newest v) window (q .1)))
 
-pub within-is : (newest v : ℕ) → newest < inBand → v < inBand → minus newest v < window → within newest v ≡ true
-unfolding within
-within-is newest v a b c = and-is _ _ (lt _ _ a) (and-is _ _ (lt _ _ b) (lt _ _ c))
+pub in-window-is : (newest v : ℕ) → newest < inBand → v < inBand → minus newest v < window → inWindow newest v ≡ true
+unfolding inWindow
+in-window-is newest v a b c = and-is _ _ (lt _ _ a) (and-is _ _ (lt _ _ b) (lt _ _ c))
 
 minus-sum : (a b : ℕ) → a < inBand → b < inBand → (minus a b + b ≡ a) ⊎ (minus a b + b ≡ a + inBand)
 minus-sum a b ha hb =
@@ -43,25 +43,25 @@ one-slot n v w p q hp hq hv hw e a b =
     (λ x. ⊎-elim (λ y. omega arith) (λ y. omega arith) b) a
 
 -- two values of one window never share a slot
-pub apart : (newest v w : ℕ) → within newest v ≡ true → within newest w ≡ true → v % window ≡ w % window → v ≡ w
+pub apart : (newest v w : ℕ) → inWindow newest v ≡ true → inWindow newest w ≡ true → v % window ≡ w % window → v ≡ w
 apart newest v w p q e =
-    let a = within-of newest v p in
-    let b = within-of newest w q in
+    let a = in-window-of newest v p in
+    let b = in-window-of newest w q in
     one-slot newest v w (minus newest v) (minus newest w) (a .1 .1) (b .1 .1) (a .1 .0) (b .1 .0) e
     (minus-sum newest v (a .0) (a .1 .0)) (minus-sum newest w (b .0) (b .1 .0))
 
 -- a unit's value lies in the window that it leaves
-pub moved-within : (newest sidx : ℕ) → sidx < inBand → within (moved newest sidx) sidx ≡ true
+pub moved-in-window : (newest sidx : ℕ) → sidx < inBand → inWindow (moved newest sidx) sidx ≡ true
 unfolding moved
-moved-within newest sidx h =
-    each (λ (n : ℕ). within n sidx ≡ true) _ _ _
-    (λ f. within-is sidx sidx h h (omega arith))
+moved-in-window newest sidx h =
+    each (λ (n : ℕ). inWindow n sidx ≡ true) _ _ _
+    (λ f. in-window-is sidx sidx h h (omega arith))
     (λ f. let l = ge-of (inBand - 1) newest f in
-    each (λ (n : ℕ). within n sidx ≡ true) _ _ _
-    (λ z. let e = eq-of (minus sidx newest) 0 z in within-is newest sidx (omega arith) h (omega arith))
-    (λ z. each (λ (n : ℕ). within n sidx ≡ true) _ _ _
-    (λ g. let m = lt-of window (minus sidx newest) g in within-is newest sidx (omega arith) h (omega arith))
-    (λ g. within-is sidx sidx h h (omega arith))))
+    each (λ (n : ℕ). inWindow n sidx ≡ true) _ _ _
+    (λ z. let e = eq-of (minus sidx newest) 0 z in in-window-is newest sidx (omega arith) h (omega arith))
+    (λ z. each (λ (n : ℕ). inWindow n sidx ≡ true) _ _ _
+    (λ g. let m = lt-of window (minus sidx newest) g in in-window-is newest sidx (omega arith) h (omega arith))
+    (λ g. in-window-is sidx sidx h h (omega arith))))
 
 -- ---- the record of a description, read back
 length-blank : length blank ≡ recordSize
@@ -182,14 +182,14 @@ module _ (newest new : ℕ) (s : List ℕ) (v : ℕ) (d : List ℕ) where
       ∙ from-beyond newest new window s 0 (omega arith)
 
 -- ---- what is held
-pub held-of : (s : List ℕ) (newest v : ℕ) → held s newest v ≡ true → (within newest v ≡ true) × ((indexOf (slot s v) ≡ v) × (0 < lengthOf (slot s v)))
+pub held-of : (s : List ℕ) (newest v : ℕ) → held s newest v ≡ true → (inWindow newest v ≡ true) × ((indexOf (slot s v) ≡ v) × (0 < lengthOf (slot s v)))
 unfolding held carries
 held-of s newest v h =
     let p = and-of _ _ h in
     let q = and-of _ _ (p .1) in
     (p .0, (eq-of (indexOf (slot s v)) v (q .0), lt-of 0 (lengthOf (slot s v)) (q .1)))
 
-pub held-is : (s : List ℕ) (newest v : ℕ) → within newest v ≡ true → indexOf (slot s v) ≡ v → 0 < lengthOf (slot s v) → held s newest v ≡ true
+pub held-is : (s : List ℕ) (newest v : ℕ) → inWindow newest v ≡ true → indexOf (slot s v) ≡ v → 0 < lengthOf (slot s v) → held s newest v ≡ true
 unfolding held carries
 held-is s newest v a b c = and-is _ _ a (and-is _ _ (eq _ _ b) (lt _ _ c))
 

@@ -20,8 +20,8 @@ abbrev pub minus : ℕ → ℕ → ℕ
 minus a b = (a % inBand + (inBand - b % inBand)) % inBand
 
 -- v is newest or one of the 63 values before it
-unfoldable pub within : (newest v : ℕ) → Bool
-within newest v = newest <? inBand and v <? inBand and minus newest v <? window
+unfoldable pub inWindow : (newest v : ℕ) → Bool
+inWindow newest v = newest <? inBand and v <? inBand and minus newest v <? window
 
 -- the first value becomes newest, and later one that is 1 to 64 ahead of newest; for others newest stays
 unfoldable pub moved : (newest sidx : ℕ) → ℕ
@@ -41,7 +41,7 @@ carries r v = indexOf r =? v and 0 <? lengthOf r
 
 -- v lies in the window, and its slot has its record
 unfoldable pub held : List ℕ → (newest v : ℕ) → Bool
-held store newest v = within newest v and carries (slot store v) v
+held store newest v = inWindow newest v and carries (slot store v) v
 
 -- what is held of v, nothing where it is not held
 unfoldable pub inStore : List ℕ → (newest v : ℕ) → List ℕ
@@ -49,7 +49,7 @@ inStore store newest v = held store newest v ⇒ descriptionOf (slot store v) �
 
 -- v lies in the window of `newest` and in that of `new`: what was outside, and so not held, is not held when the window moves over it
 unfoldable pub stays : (newest new v : ℕ) → Bool
-stays newest new v = within newest v and within new v
+stays newest new v = inWindow newest v and inWindow new v
 
 -- slot i is blank from now on, unless the value of its record stays
 unfoldable pub forgottenAt : (newest new : ℕ) → List ℕ → ℕ → List ℕ
@@ -78,8 +78,8 @@ pub record After : Type 0 where
   pub answer : Noted
   pub store : List ℕ
 
-abbrev pub told : ℕ → Outcome → Noted
-told newest o = record { newest = newest; outcome = o }
+abbrev pub notedAs : ℕ → Outcome → Noted
+notedAs newest o = record { newest = newest; outcome = o }
 
 abbrev pub left : Noted → List ℕ → After
 left r store = record { answer = r; store = store }
@@ -91,8 +91,8 @@ improper sidx d = inBand - 1 <? sidx or length d =? 0
 -- the order of the paper: 5, repeat, 7. A refusal and a repeat leave all as it was
 unfoldable pub noted : List ℕ → (newest sidx : ℕ) → List ℕ → After
 noted store newest sidx d =
-    improper sidx d ⇒ left (told newest (Refused Fields)) store
-    ⁏ descriptionMost <? length d ⇒ left (told newest (Refused Size)) store
-    ⁏ repeated store newest sidx d ⇒ left (told newest Repeat) store
-    ⁏ held store newest sidx ⇒ left (told newest (Refused Conflict)) store
-    ⁏ left (told (moved newest sidx) Described) (stored (forgotten newest (moved newest sidx) store) sidx d)
+    improper sidx d ⇒ left (notedAs newest (Refused Fields)) store
+    ⁏ descriptionMost <? length d ⇒ left (notedAs newest (Refused Size)) store
+    ⁏ repeated store newest sidx d ⇒ left (notedAs newest Repeat) store
+    ⁏ held store newest sidx ⇒ left (notedAs newest (Refused Conflict)) store
+    ⁏ left (notedAs (moved newest sidx) Described) (stored (forgotten newest (moved newest sidx) store) sidx d)

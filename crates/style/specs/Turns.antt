@@ -14,7 +14,7 @@ use Rattle.paper.specs.declared.Outcome.the-variants.{Described}
 use Rattle.style.specs.declared.Checked.the-variants.{Good, Refused}
 use Rattle.style.specs.Record.{recordAt, indexOf, descriptionOf, filled}
 use Rattle.style.specs.Book.{badRecord, checkFrom, entryFrom}
-use Rattle.style.specs.Store.{moved, held, repeated, improper, forgottenAt, forgottenFrom, forgotten, stored, told, left, noted}
+use Rattle.style.specs.Store.{moved, held, repeated, improper, forgottenAt, forgottenFrom, forgotten, stored, notedAs, left, noted}
 
 -- ---- past the last record there is none
 pub record-past : (s : List ℕ) (i : ℕ) → length s / recordSize < i → recordAt s i ≡ []
@@ -76,7 +76,7 @@ forgotten-end newest new store i n h = let q : n - i ≡ 0 = omega arith in rw q
 pub noted-described : (store : List ℕ) (newest sidx : ℕ) (d : List ℕ) → improper sidx d ≡ false → length d ≤ descriptionMost
     → repeated store newest sidx d ≡ false → held store newest sidx ≡ false
     → (new : ℕ) → new ≡ moved newest sidx → (s : List ℕ) → s ≡ forgotten newest new store → (t : List ℕ) → t ≡ stored s sidx d
-    → left (told new Described) t ≡ noted store newest sidx d
+    → left (notedAs new Described) t ≡ noted store newest sidx d
 unfolding noted
 noted-described store newest sidx d i l r h new en s es t et =
     rw (et, es, en) (no _ _ i (no _ _ (ge _ _ l) (no _ _ r (no _ _ h refl))))

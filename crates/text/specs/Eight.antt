@@ -28,7 +28,7 @@ pub record Shape (c n : ℕ) (s : List ℕ) : Type 0 where
   pub least : leastOf n ≤ c
   pub rest : continues s 1 (n - 1) ≡ true
 
-leasts : (leastOf 1 ≡ 0) × ((leastOf 2 ≡ 128) × ((leastOf 3 ≡ 2048) × (leastOf 4 ≡ 65536)))
+leasts : (leastOf 1 ≡ 0) × ((leastOf 2 ≡ 0x80) × ((leastOf 3 ≡ 0x800) × (leastOf 4 ≡ 0x10000)))
 unfolding leastOf _⇒_⁏_ _<?_
 leasts = (refl, (refl, (refl, refl)))
 
@@ -38,31 +38,31 @@ shape : (c n : ℕ) (s : List ℕ) → n ≡ sizeOf (u8At s 0) → 0 < n → n �
 shape c n s e h l k r = rw (← e) (record { some = h; long = l; least = k; rest = r })
 
 -- one continuation byte more, and one less
-goes : (s : List ℕ) (i k : ℕ) → 128 ≤ u8At s i → u8At s i < 192 → continues s (suc i) k ≡ true → continues s i (suc k) ≡ true
+goes : (s : List ℕ) (i k : ℕ) → 0x80 ≤ u8At s i → u8At s i < 0xC0 → continues s (suc i) k ≡ true → continues s i (suc k) ≡ true
 unfolding continues
 goes s i k h l e = and-is _ _ (lt _ _ h) (and-is _ _ (lt _ _ l) e)
 
-went : (s : List ℕ) (i k : ℕ) → continues s i (suc k) ≡ true → (128 ≤ u8At s i) × ((u8At s i < 192) × (continues s (suc i) k ≡ true))
+went : (s : List ℕ) (i k : ℕ) → continues s i (suc k) ≡ true → (0x80 ≤ u8At s i) × ((u8At s i < 0xC0) × (continues s (suc i) k ≡ true))
 unfolding continues
 went s i k e = let t = and-of _ _ e in let u = and-of _ _ (t .1) in (lt-of _ _ (t .0), (lt-of _ _ (u .0), u .1))
 
 -- a character in front has its shape
-shaped : (c : ℕ) (rest : List ℕ) → c < 1114112 → Shape c (sizeOf (u8At (utf8 c ++ rest) 0)) (utf8 c ++ rest)
+shaped : (c : ℕ) (rest : List ℕ) → c < 0x110000 → Shape c (sizeOf (u8At (utf8 c ++ rest) 0)) (utf8 c ++ rest)
 unfolding sizeOf continues
 shaped c rest top =
     utf8-forms (λ x. Shape c (sizeOf (u8At (x ++ rest) 0)) (x ++ rest)) c
     (λ h. shape c 1 (c ∷ rest) (yes _ _ (lt _ _ h) refl) (omega arith) (omega arith) (omega (arith, leasts)) refl)
     (λ h k.
-    let s : List ℕ = (192 + c / 64) ∷ (128 + c % 64) ∷ rest in
+    let s : List ℕ = (0xC0 + c / 0x40) ∷ (0x80 + c % 0x40) ∷ rest in
     shape c 2 s (no _ _ (ge _ _ (omega arith)) (no _ _ (ge _ _ (omega arith)) (yes _ _ (lt _ _ (omega arith)) refl)))
     (omega arith) (omega arith) (omega (arith, leasts)) (goes s 1 0 (omega arith) (omega arith) refl))
     (λ h k.
-    let s : List ℕ = (224 + c / 4096) ∷ (128 + c / 64 % 64) ∷ (128 + c % 64) ∷ rest in
+    let s : List ℕ = (0xE0 + c / 0x1000) ∷ (0x80 + c / 0x40 % 0x40) ∷ (0x80 + c % 0x40) ∷ rest in
     shape c 3 s
     (no _ _ (ge _ _ (omega arith)) (no _ _ (ge _ _ (omega arith)) (no _ _ (ge _ _ (omega arith)) (yes _ _ (lt _ _ (omega arith)) refl))))
     (omega arith) (omega arith) (omega (arith, leasts)) (goes s 1 1 (omega arith) (omega arith) (goes s 2 0 (omega arith) (omega arith) refl)))
     (λ h.
-    let s : List ℕ = (240 + c / 262144) ∷ (128 + c / 4096 % 64) ∷ (128 + c / 64 % 64) ∷ (128 + c % 64) ∷ rest in
+    let s : List ℕ = (0xF0 + c / 0x40000) ∷ (0x80 + c / 0x1000 % 0x40) ∷ (0x80 + c / 0x40 % 0x40) ∷ (0x80 + c % 0x40) ∷ rest in
     shape c 4 s
     (no _ _ (ge _ _ (omega arith)) (no _ _ (ge _ _ (omega arith)) (no _ _ (ge _ _ (omega arith)) (no _ _ (ge _ _ (omega arith)) refl))))
     (omega arith) (omega arith) (omega (arith, leasts))
@@ -81,47 +81,47 @@ eight-refused s n z h =
 -- ---- the bytes that have the shape are the encoding
 
 module _ (s : List ℕ) (c : ℕ) (e : c ≡ decoded8 s) where
-  one-fits : u8At s 0 < 128 → 1 ≤ length s → utf8 c ≡ take 1 s
+  one-fits : u8At s 0 < 0x80 → 1 ≤ length s → utf8 c ≡ take 1 s
   unfolding utf8 decoded8
   one-fits h l =
       let v : c ≡ u8At s 0 = e ∙ sym (yes _ _ (lt _ _ h) refl) in
       sym (yes _ _ (lt _ _ (omega arith)) (rw v (sym (took 0 s 0 0 [] (omega arith) refl))))
 
-  two-fits : 192 ≤ u8At s 0 → u8At s 0 < 224 → 2 ≤ length s → 128 ≤ c → continues s 1 1 ≡ true → utf8 c ≡ take 2 s
+  two-fits : 0xC0 ≤ u8At s 0 → u8At s 0 < 0xE0 → 2 ≤ length s → 0x80 ≤ c → continues s 1 1 ≡ true → utf8 c ≡ take 2 s
   unfolding utf8 decoded8
   two-fits h k l m r =
-      let v : c ≡ (u8At s 0 - 192) * 64 + (u8At s 1 - 128) = e ∙ sym (no _ _ (ge _ _ (omega arith)) (yes _ _ (lt _ _ k) refl)) in
+      let v : c ≡ (u8At s 0 - 0xC0) * 0x40 + (u8At s 1 - 0x80) = e ∙ sym (no _ _ (ge _ _ (omega arith)) (yes _ _ (lt _ _ k) refl)) in
       let w = went s 1 0 r in
-      let a : 192 + c / 64 ≡ u8At s 0 = omega arith in
-      let b : 128 + c % 64 ≡ u8At s 1 = omega arith in
+      let a : 0xC0 + c / 0x40 ≡ u8At s 0 = omega arith in
+      let b : 0x80 + c % 0x40 ≡ u8At s 1 = omega arith in
       sym (no _ _ (ge _ _ (omega arith)) (yes _ _ (lt _ _ (omega arith))
       (rw (a, b) (sym (took 0 s 0 1 _ (omega arith) (took 0 s 1 0 [] (omega arith) refl))))))
 
-  three-fits : 224 ≤ u8At s 0 → u8At s 0 < 240 → 3 ≤ length s → 2048 ≤ c → continues s 1 2 ≡ true → utf8 c ≡ take 3 s
+  three-fits : 0xE0 ≤ u8At s 0 → u8At s 0 < 0xF0 → 3 ≤ length s → 0x800 ≤ c → continues s 1 2 ≡ true → utf8 c ≡ take 3 s
   unfolding utf8 decoded8
   three-fits h k l m r =
-      let v : c ≡ (u8At s 0 - 224) * 4096 + (u8At s 1 - 128) * 64 + (u8At s 2 - 128) =
+      let v : c ≡ (u8At s 0 - 0xE0) * 0x1000 + (u8At s 1 - 0x80) * 0x40 + (u8At s 2 - 0x80) =
       e ∙ sym (no _ _ (ge _ _ (omega arith)) (no _ _ (ge _ _ h) (yes _ _ (lt _ _ k) refl))) in
       let w = went s 1 1 r in
       let x = went s 2 0 (w .1 .1) in
-      let a : 224 + c / 4096 ≡ u8At s 0 = omega arith in
-      let b : 128 + c / 64 % 64 ≡ u8At s 1 = omega arith in
-      let d : 128 + c % 64 ≡ u8At s 2 = omega arith in
+      let a : 0xE0 + c / 0x1000 ≡ u8At s 0 = omega arith in
+      let b : 0x80 + c / 0x40 % 0x40 ≡ u8At s 1 = omega arith in
+      let d : 0x80 + c % 0x40 ≡ u8At s 2 = omega arith in
       sym (no _ _ (ge _ _ (omega arith)) (no _ _ (ge _ _ m) (yes _ _ (lt _ _ (omega arith))
       (rw (a, b, d) (sym (took 0 s 0 2 _ (omega arith) (took 0 s 1 1 _ (omega arith) (took 0 s 2 0 [] (omega arith) refl))))))))
 
-  four-fits : 240 ≤ u8At s 0 → 4 ≤ length s → 65536 ≤ c → continues s 1 3 ≡ true → utf8 c ≡ take 4 s
+  four-fits : 0xF0 ≤ u8At s 0 → 4 ≤ length s → 0x10000 ≤ c → continues s 1 3 ≡ true → utf8 c ≡ take 4 s
   unfolding utf8 decoded8
   four-fits h l m r =
-      let v : c ≡ (u8At s 0 - 240) * 262144 + (u8At s 1 - 128) * 4096 + (u8At s 2 - 128) * 64 + (u8At s 3 - 128) =
+      let v : c ≡ (u8At s 0 - 0xF0) * 0x40000 + (u8At s 1 - 0x80) * 0x1000 + (u8At s 2 - 0x80) * 0x40 + (u8At s 3 - 0x80) =
       e ∙ sym (no _ _ (ge _ _ (omega arith)) (no _ _ (ge _ _ (omega arith)) (no _ _ (ge _ _ h) refl))) in
       let w = went s 1 2 r in
       let x = went s 2 1 (w .1 .1) in
       let y = went s 3 0 (x .1 .1) in
-      let a : 240 + c / 262144 ≡ u8At s 0 = omega arith in
-      let b : 128 + c / 4096 % 64 ≡ u8At s 1 = omega arith in
-      let d : 128 + c / 64 % 64 ≡ u8At s 2 = omega arith in
-      let f : 128 + c % 64 ≡ u8At s 3 = omega arith in
+      let a : 0xF0 + c / 0x40000 ≡ u8At s 0 = omega arith in
+      let b : 0x80 + c / 0x1000 % 0x40 ≡ u8At s 1 = omega arith in
+      let d : 0x80 + c / 0x40 % 0x40 ≡ u8At s 2 = omega arith in
+      let f : 0x80 + c % 0x40 ≡ u8At s 3 = omega arith in
       sym (no _ _ (ge _ _ (omega arith)) (no _ _ (ge _ _ (omega arith)) (no _ _ (ge _ _ m)
       (rw (a, b, d, f)
       (sym (took 0 s 0 3 _ (omega arith) (took 0 s 1 2 _ (omega arith) (took 0 s 2 1 _ (omega arith) (took 0 s 3 0 [] (omega arith) refl)))))))))

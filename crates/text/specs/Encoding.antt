@@ -12,10 +12,10 @@ use Rattle.text.specs.Unicode.{scalar, utf8, utf16, encoded, decoded8, d
 
 -- what holds of each form holds of the encoding
 pub utf8-forms : (P : List ℕ → Type 0) (c : ℕ)
-    → (c < 128 → P (c ∷ []))
-    → (128 ≤ c → c < 2048 → P ((192 + c / 64) ∷ (128 + c % 64) ∷ []))
-    → (2048 ≤ c → c < 65536 → P ((224 + c / 4096) ∷ (128 + c / 64 % 64) ∷ (128 + c % 64) ∷ []))
-    → (65536 ≤ c → P ((240 + c / 262144) ∷ (128 + c / 4096 % 64) ∷ (128 + c / 64 % 64) ∷ (128 + c % 64) ∷ []))
+    → (c < 0x80 → P (c ∷ []))
+    → (0x80 ≤ c → c < 0x800 → P ((0xC0 + c / 0x40) ∷ (0x80 + c % 0x40) ∷ []))
+    → (0x800 ≤ c → c < 0x10000 → P ((0xE0 + c / 0x1000) ∷ (0x80 + c / 0x40 % 0x40) ∷ (0x80 + c % 0x40) ∷ []))
+    → (0x10000 ≤ c → P ((0xF0 + c / 0x40000) ∷ (0x80 + c / 0x1000 % 0x40) ∷ (0x80 + c / 0x40 % 0x40) ∷ (0x80 + c % 0x40) ∷ []))
     → P (utf8 c)
 unfolding utf8
 utf8-forms P c one two three four =
@@ -24,8 +24,8 @@ utf8-forms P c one two three four =
     (λ k. each P _ _ _ (λ l. three (ge-of _ _ k) (lt-of _ _ l)) (λ l. four (ge-of _ _ l))))
 
 pub utf16-forms : (P : List ℕ → Type 0) (c : ℕ)
-    → (c < 65536 → P (be16 c))
-    → (65536 ≤ c → P (be16 (55296 + (c - 65536) / 1024) ++ be16 (56320 + (c - 65536) % 1024)))
+    → (c < 0x10000 → P (be16 c))
+    → (0x10000 ≤ c → P (be16 (0xD800 + (c - 0x10000) / 0x400) ++ be16 (0xDC00 + (c - 0x10000) % 0x400)))
     → P (utf16 c)
 unfolding utf16
 utf16-forms P c one two = each P _ _ _ (λ h. one (lt-of _ _ h)) (λ h. two (ge-of _ _ h))
@@ -42,12 +42,12 @@ encoded-sized U c =
     (λ u. utf16-forms Sized c (λ h. omega arith) (λ h. omega arith))
 
 -- a scalar value is no surrogate, and at most 10FFFF
-pub scalar-of : (c : ℕ) → scalar c ≡ true → (c < 55296) ⊎ ((57343 < c) × (c < 1114112))
+pub scalar-of : (c : ℕ) → scalar c ≡ true → (c < 0xD800) ⊎ ((0xDFFF < c) × (c < 0x110000))
 unfolding scalar
 scalar-of c h =
     ⊎-elim (λ a. inl (lt-of _ _ a)) (λ b. let t = and-of _ _ b in inr (lt-of _ _ (t .0), lt-of _ _ (t .1))) (or-of _ _ h)
 
-pub scalar-is : (c : ℕ) → (c < 55296) ⊎ ((57343 < c) × (c < 1114112)) → scalar c ≡ true
+pub scalar-is : (c : ℕ) → (c < 0xD800) ⊎ ((0xDFFF < c) × (c < 0x110000)) → scalar c ≡ true
 unfolding scalar
 scalar-is c h =
     ⊎-elim
@@ -55,14 +55,14 @@ scalar-is c h =
     (λ high. sym (no _ _ (ge _ _ (omega arith)) (sym (and-is _ _ (lt _ _ (high .0)) (lt _ _ (high .1))))))
     h
 
-pub scalar-top : (c : ℕ) → scalar c ≡ true → c < 1114112
+pub scalar-top : (c : ℕ) → scalar c ≡ true → c < 0x110000
 scalar-top c h = ⊎-elim (λ low. omega arith) (λ high. omega arith) (scalar-of c h)
 
-decoded-utf8 : (c : ℕ) (rest : List ℕ) → c < 1114112 → decoded8 (utf8 c ++ rest) ≡ c
+decoded-utf8 : (c : ℕ) (rest : List ℕ) → c < 0x110000 → decoded8 (utf8 c ++ rest) ≡ c
 unfolding decoded8
 decoded-utf8 c rest top =
-    let a : c / 64 / 64 ≡ c / 4096 = omega arith in
-    let b : c / 4096 / 64 ≡ c / 262144 = omega arith in
+    let a : c / 0x40 / 0x40 ≡ c / 0x1000 = omega arith in
+    let b : c / 0x1000 / 0x40 ≡ c / 0x40000 = omega arith in
     utf8-forms (λ x. decoded8 (x ++ rest) ≡ c) c
     (λ h. sym (yes _ _ (lt _ _ h) refl))
     (λ h k. sym (no _ _ (ge _ _ (omega arith)) (yes _ _ (lt _ _ (omega arith)) (omega arith))))
@@ -70,7 +70,7 @@ decoded-utf8 c rest top =
     (λ h. sym (no _ _ (ge _ _ (omega arith)) (no _ _ (ge _ _ (omega arith)) (no _ _ (ge _ _ (omega arith)) (omega arith)))))
 
 -- a number of 16 bits, back from its bytes
-pub two-bytes : (x : ℕ) → x < 65536 → x / 256 % 256 * 256 + x % 256 ≡ x
+pub two-bytes : (x : ℕ) → x < 0x10000 → x / 256 % 256 * 256 + x % 256 ≡ x
 two-bytes x h = omega arith
 
 decoded-utf16 : (c : ℕ) (rest : List ℕ) → scalar c ≡ true → decoded16 (utf16 c ++ rest) ≡ c
@@ -84,7 +84,7 @@ decoded-utf16 c rest good =
     (scalar-of c good)))
     (λ h.
     let top = scalar-top c good in
-    rw (two-bytes (55296 + (c - 65536) / 1024) (omega arith), two-bytes (56320 + (c - 65536) % 1024) (omega arith))
+    rw (two-bytes (0xD800 + (c - 0x10000) / 0x400) (omega arith), two-bytes (0xDC00 + (c - 0x10000) % 0x400) (omega arith))
     (sym (no _ _ (ge _ _ (omega arith)) (no _ _ (ge _ _ (omega arith)) (omega arith)))))
 
 -- the number put together from a scalar value's bytes is that value, whatever follows them

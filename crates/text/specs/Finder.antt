@@ -12,7 +12,7 @@ use Rattle.text.specs.Begins.{begins-append, begins-split}
 use Rattle.text.specs.Encoding.{encoded-sized, decoded-encoded}
 
 -- the character that s begins with: its value, and its bytes in front
-pub record Found (U : ℕ) (s : List ℕ) : Type 0 where
+pub record CharacterFound (U : ℕ) (s : List ℕ) : Type 0 where
   pub value : ℕ
   pub good : scalar value ≡ true
   pub size : character U s ≡ length (encoded U value)
@@ -25,7 +25,7 @@ positive true k h = (refl, refl)
 positive false k h = absurd (omega arith)
 
 -- where the finder finds something, s begins with the encoding of a scalar value, which is as long as the finder says
-pub finder-sound : (U : ℕ) (s : List ℕ) → 0 < character U s → Found U s
+pub finder-sound : (U : ℕ) (s : List ℕ) → 0 < character U s → CharacterFound U s
 unfolding character
 finder-sound U s h =
     let t = positive _ _ h in

@@ -28,13 +28,13 @@ decoded-1 s = sym (no _ _ (ne 1 0 (λ e. omega arith)) refl)
 
 -- a high surrogate and a low one
 pub record Pair (a b : ℕ) : Type 0 where
-  pub high : 55296 ≤ a
-  pub high-end : a < 56320
-  pub low : 56320 ≤ b
-  pub low-end : b < 57344
+  pub high : 0xD800 ≤ a
+  pub high-end : a < 0xDC00
+  pub low : 0xDC00 ≤ b
+  pub low-end : b < 0xE000
 
 -- where the bytes are of neither form, they begin with no character
-neither : (s : List ℕ) → (2 ≤ length s → (u16At s 0 < 55296) ⊎ (57343 < u16At s 0) → ⊥)
+neither : (s : List ℕ) → (2 ≤ length s → (u16At s 0 < 0xD800) ⊎ (0xDFFF < u16At s 0) → ⊥)
     → (4 ≤ length s → Pair (u16At s 0) (u16At s 2) → ⊥) → 0 ≡ character 1 s
 neither s one two =
     refused-is 1 s
@@ -44,7 +44,7 @@ neither s one two =
     (λ h f.
     let top = scalar-top c good in
     two (rw f (omega arith))
-    (rw (f, two-bytes (55296 + (c - 65536) / 1024) (omega arith), two-bytes (56320 + (c - 65536) % 1024) (omega arith))
+    (rw (f, two-bytes (0xD800 + (c - 0x10000) / 0x400) (omega arith), two-bytes (0xDC00 + (c - 0x10000) % 0x400) (omega arith))
     (record { high = omega arith; high-end = omega arith; low = omega arith; low-end = omega arith })))
     (rw (← (encoded-1 c)) e))
 
@@ -52,7 +52,7 @@ neither s one two =
 pub sixteen-short : (s : List ℕ) → length s < 2 → 0 ≡ character 1 s
 sixteen-short s h = neither s (λ l e. omega arith) (λ l p. omega arith)
 
-pub sixteen-lone : (s : List ℕ) → 55296 ≤ u16At s 0 → u16At s 0 ≤ 57343 → (4 ≤ length s → Pair (u16At s 0) (u16At s 2) → ⊥)
+pub sixteen-lone : (s : List ℕ) → 0xD800 ≤ u16At s 0 → u16At s 0 ≤ 0xDFFF → (4 ≤ length s → Pair (u16At s 0) (u16At s 2) → ⊥)
     → 0 ≡ character 1 s
 sixteen-lone s h k two = neither s (λ l e. ⊎-elim (λ a. omega arith) (λ a. omega arith) e) two
 
@@ -64,16 +64,16 @@ sixteen-found s n good e h = found-is 1 s n (rw decoded-1 good) (rw (decoded-1, 
 bytes-of : (a b : ℕ) → a < 256 → b < 256 → ((a * 256 + b) / 256 % 256 ≡ a) × ((a * 256 + b) % 256 ≡ b)
 bytes-of a b h k = (omega arith, omega arith)
 
-pair-of : (a b c : ℕ) → Pair a b → c ≡ 65536 + (a - 55296) * 1024 + (b - 56320) → utf16 c ≡ be16 a ++ be16 b
+pair-of : (a b c : ℕ) → Pair a b → c ≡ 0x10000 + (a - 0xD800) * 0x400 + (b - 0xDC00) → utf16 c ≡ be16 a ++ be16 b
 unfolding utf16
 pair-of a b c h e =
-    let x : 55296 + (c - 65536) / 1024 ≡ a = omega arith in
-    let y : 56320 + (c - 65536) % 1024 ≡ b = omega arith in
+    let x : 0xD800 + (c - 0x10000) / 0x400 ≡ a = omega arith in
+    let y : 0xDC00 + (c - 0x10000) % 0x400 ≡ b = omega arith in
     sym (no _ _ (ge _ _ (omega arith)) (rw (x, y)))
 
 -- the code's finds
 module _ (s : List ℕ) (b0 : u8At s 0 < 256) (b1 : u8At s 1 < 256) where
-  pub sixteen-one : 2 ≤ length s → (u16At s 0 < 55296) ⊎ (57343 < u16At s 0) → 2 ≡ character 1 s
+  pub sixteen-one : 2 ≤ length s → (u16At s 0 < 0xD800) ⊎ (0xDFFF < u16At s 0) → 2 ≡ character 1 s
   unfolding utf16 decoded16
   sixteen-one l h =
       let v : decoded16 s ≡ u16At s 0 =
@@ -88,7 +88,7 @@ module _ (s : List ℕ) (b0 : u8At s 0 < 256) (b1 : u8At s 1 < 256) where
   pub sixteen-two : u8At s 2 < 256 → u8At s 3 < 256 → 4 ≤ length s → Pair (u16At s 0) (u16At s 2) → 4 ≡ character 1 s
   unfolding decoded16
   sixteen-two b2 b3 l h =
-      let v : decoded16 s ≡ 65536 + (u16At s 0 - 55296) * 1024 + (u16At s 2 - 56320) =
+      let v : decoded16 s ≡ 0x10000 + (u16At s 0 - 0xD800) * 0x400 + (u16At s 2 - 0xDC00) =
       sym (no _ _ (ge _ _ (h .high)) (no _ _ (ge _ _ (omega arith)) refl)) in
       let front = bytes-of (u8At s 0) (u8At s 1) b0 b1 in
       let back = bytes-of (u8At s 2) (u8At s 3) b2 b3 in

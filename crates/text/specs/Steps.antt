@@ -11,28 +11,28 @@ use Rattle.octets.specs.Be.{u8At}
 
 -- how many bytes a lead byte announces; 0 of a continuation byte
 unfoldable pub sizeOf : ℕ → ℕ
-sizeOf lead = lead <? 128 ⇒ 1 ⁏ lead <? 192 ⇒ 0 ⁏ lead <? 224 ⇒ 2 ⁏ lead <? 240 ⇒ 3 ⁏ 4
+sizeOf lead = lead <? 0x80 ⇒ 1 ⁏ lead <? 0xC0 ⇒ 0 ⁏ lead <? 0xE0 ⇒ 2 ⁏ lead <? 0xF0 ⇒ 3 ⁏ 4
 
 -- the least number that takes n bytes
 unfoldable pub leastOf : ℕ → ℕ
-leastOf n = n <? 2 ⇒ 0 ⁏ n <? 3 ⇒ 128 ⁏ n <? 4 ⇒ 2048 ⁏ 65536
+leastOf n = n <? 2 ⇒ 0 ⁏ n <? 3 ⇒ 0x80 ⁏ n <? 4 ⇒ 0x800 ⁏ 0x10000
 
 -- whether the k bytes from i on are continuation bytes, 80 to BF
 unfoldable pub continues : List ℕ → (i k : ℕ) → Bool
 continues s i zero = true
-continues s i (suc k) = 127 <? u8At s i and u8At s i <? 192 and continues s (suc i) k
+continues s i (suc k) = 0x7F <? u8At s i and u8At s i <? 0xC0 and continues s (suc i) k
 
 continues-turn : (s : List ℕ) (i n : ℕ) → i < n
-    → continues s i (n - i) ≡ (127 <? u8At s i and u8At s i <? 192 and continues s (i + 1) (n - (i + 1)))
+    → continues s i (n - i) ≡ (0x7F <? u8At s i and u8At s i <? 0xC0 and continues s (i + 1) (n - (i + 1)))
 unfolding continues
 continues-turn s i n h = let e : n - i ≡ suc (n - (i + 1)) = omega arith in rw (e, add-one)
 
 -- a turn of the loop, its early end, and its end
 module _ (s : List ℕ) (i n : ℕ) where
-  pub continues-on : i < n → 128 ≤ u8At s i → u8At s i < 192 → continues s i (n - i) ≡ continues s (i + 1) (n - (i + 1))
+  pub continues-on : i < n → 0x80 ≤ u8At s i → u8At s i < 0xC0 → continues s i (n - i) ≡ continues s (i + 1) (n - (i + 1))
   continues-on h k l = continues-turn s i n h ∙ sym (yes _ _ (lt _ _ k) (yes _ _ (lt _ _ l) refl))
 
-  pub continues-not : i < n → (u8At s i < 128) ⊎ (191 < u8At s i) → false ≡ continues s i (n - i)
+  pub continues-not : i < n → (u8At s i < 0x80) ⊎ (0xBF < u8At s i) → false ≡ continues s i (n - i)
   continues-not h k =
       rw (continues-turn s i n h)
       (⊎-elim

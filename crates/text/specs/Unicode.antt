@@ -12,20 +12,20 @@ use Rattle.octets.specs.Be.{u8At, u16At, be16}
 
 -- a Unicode scalar value: up to 10FFFF, but for the surrogates D800 to DFFF
 unfoldable pub scalar : ℕ → Bool
-scalar c = c <? 55296 or 57343 <? c and c <? 1114112
+scalar c = c <? 0xD800 or 0xDFFF <? c and c <? 0x110000
 
 -- below 80 one byte; below 800 two, 110xxxxx 10xxxxxx; below 10000 three, 1110xxxx and two of 10xxxxxx; else four, 11110xxx and
 -- three of 10xxxxxx
 unfoldable pub utf8 : ℕ → List ℕ
 utf8 c =
-    c <? 128 ⇒ c ∷ []
-    ⁏ c <? 2048 ⇒ (192 + c / 64) ∷ (128 + c % 64) ∷ []
-    ⁏ c <? 65536 ⇒ (224 + c / 4096) ∷ (128 + c / 64 % 64) ∷ (128 + c % 64) ∷ []
-    ⁏ (240 + c / 262144) ∷ (128 + c / 4096 % 64) ∷ (128 + c / 64 % 64) ∷ (128 + c % 64) ∷ []
+    c <? 0x80 ⇒ c ∷ []
+    ⁏ c <? 0x800 ⇒ (0xC0 + c / 0x40) ∷ (0x80 + c % 0x40) ∷ []
+    ⁏ c <? 0x10000 ⇒ (0xE0 + c / 0x1000) ∷ (0x80 + c / 0x40 % 0x40) ∷ (0x80 + c % 0x40) ∷ []
+    ⁏ (0xF0 + c / 0x40000) ∷ (0x80 + c / 0x1000 % 0x40) ∷ (0x80 + c / 0x40 % 0x40) ∷ (0x80 + c % 0x40) ∷ []
 
 -- below 10000 one number of 16 bits; else the two halves of c less 10000, behind a high surrogate's D800 and a low one's DC00
 unfoldable pub utf16 : ℕ → List ℕ
-utf16 c = c <? 65536 ⇒ be16 c ⁏ be16 (55296 + (c - 65536) / 1024) ++ be16 (56320 + (c - 65536) % 1024)
+utf16 c = c <? 0x10000 ⇒ be16 c ⁏ be16 (0xD800 + (c - 0x10000) / 0x400) ++ be16 (0xDC00 + (c - 0x10000) % 0x400)
 
 unfoldable pub encoded : (U c : ℕ) → List ℕ
 encoded U c = U =? 0 ⇒ utf8 c ⁏ utf16 c
@@ -42,16 +42,16 @@ begins (a ∷ x) (b ∷ s) = a =? b and begins x s
 -- front. It means nothing where s begins with no encoding: `character` looks
 unfoldable pub decoded8 : List ℕ → ℕ
 decoded8 s =
-    u8At s 0 <? 128 ⇒ u8At s 0
-    ⁏ u8At s 0 <? 224 ⇒ (u8At s 0 - 192) * 64 + (u8At s 1 - 128)
-    ⁏ u8At s 0 <? 240 ⇒ (u8At s 0 - 224) * 4096 + (u8At s 1 - 128) * 64 + (u8At s 2 - 128)
-    ⁏ (u8At s 0 - 240) * 262144 + (u8At s 1 - 128) * 4096 + (u8At s 2 - 128) * 64 + (u8At s 3 - 128)
+    u8At s 0 <? 0x80 ⇒ u8At s 0
+    ⁏ u8At s 0 <? 0xE0 ⇒ (u8At s 0 - 0xC0) * 0x40 + (u8At s 1 - 0x80)
+    ⁏ u8At s 0 <? 0xF0 ⇒ (u8At s 0 - 0xE0) * 0x1000 + (u8At s 1 - 0x80) * 0x40 + (u8At s 2 - 0x80)
+    ⁏ (u8At s 0 - 0xF0) * 0x40000 + (u8At s 1 - 0x80) * 0x1000 + (u8At s 2 - 0x80) * 0x40 + (u8At s 3 - 0x80)
 
 unfoldable pub decoded16 : List ℕ → ℕ
 decoded16 s =
-    u16At s 0 <? 55296 ⇒ u16At s 0
-    ⁏ 56319 <? u16At s 0 ⇒ u16At s 0
-    ⁏ 65536 + (u16At s 0 - 55296) * 1024 + (u16At s 2 - 56320)
+    u16At s 0 <? 0xD800 ⇒ u16At s 0
+    ⁏ 0xDBFF <? u16At s 0 ⇒ u16At s 0
+    ⁏ 0x10000 + (u16At s 0 - 0xD800) * 0x400 + (u16At s 2 - 0xDC00)
 
 unfoldable pub decoded : (U : ℕ) → List ℕ → ℕ
 decoded U s = U =? 0 ⇒ decoded8 s ⁏ decoded16 s

@@ -77,16 +77,16 @@ fn eight(s: &[u8]) -> usize
 fn size(lead: usize) -> usize
     ensures { λ r. ⌜ r ≡ sizeOf lead ⌝ }
 {
-    if lead < 128 {
+    if lead < 0x80 {
         return 1;
     }
-    if lead < 192 {
+    if lead < 0xC0 {
         return 0;
     }
-    if lead < 224 {
+    if lead < 0xE0 {
         return 2;
     }
-    if lead < 240 {
+    if lead < 0xF0 {
         return 3;
     }
     4
@@ -100,12 +100,12 @@ fn least(n: usize) -> usize
         return 0;
     }
     if n < 3 {
-        return 128;
+        return 0x80;
     }
     if n < 4 {
-        return 2048;
+        return 0x800;
     }
-    65536
+    0x10000
 }
 
 // Whether the bytes behind the first, up to n, are continuation bytes.
@@ -115,10 +115,10 @@ fn continued(s: &[u8], n: usize) -> bool
     let mut i = 1;
     while i < n {
         let b = octets::byte(s, i);
-        if b < 128 {
+        if b < 0x80 {
             return false;
         }
-        if 191 < b {
+        if 0xBF < b {
             return false;
         }
         i += 1;
@@ -131,31 +131,31 @@ fn number(s: &[u8]) -> usize
     ensures { λ r. ⌜ r ≡ decoded8 (now (s .entry)) ⌝ }
 {
     let lead = octets::byte(s, 0);
-    let b = octets::less(octets::byte(s, 1), 128);
-    let c = octets::less(octets::byte(s, 2), 128);
-    let d = octets::less(octets::byte(s, 3), 128);
-    if lead < 128 {
+    let b = octets::less(octets::byte(s, 1), 0x80);
+    let c = octets::less(octets::byte(s, 2), 0x80);
+    let d = octets::less(octets::byte(s, 3), 0x80);
+    if lead < 0x80 {
         return lead;
     }
-    if lead < 224 {
-        return octets::less(lead, 192) * 64 + b;
+    if lead < 0xE0 {
+        return octets::less(lead, 0xC0) * 0x40 + b;
     }
-    if lead < 240 {
-        return (lead - 224) * 4096 + b * 64 + c;
+    if lead < 0xF0 {
+        return (lead - 0xE0) * 0x1000 + b * 0x40 + c;
     }
-    (lead - 240) * 262144 + b * 4096 + c * 64 + d
+    (lead - 0xF0) * 0x40000 + b * 0x1000 + c * 0x40 + d
 }
 
 fn is_scalar(c: usize) -> bool
     ensures { λ r. ⌜ r ≡ scalar c ⌝ }
 {
-    if c < 55296 {
+    if c < 0xD800 {
         return true;
     }
-    if c < 57344 {
+    if c < 0xE000 {
         return false;
     }
-    if c < 1114112 {
+    if c < 0x110000 {
         return true;
     }
     false
@@ -170,22 +170,22 @@ fn sixteen(s: &[u8]) -> usize
     if s.len() < 2 {
         return 0;
     }
-    if a < 55296 {
+    if a < 0xD800 {
         return 2;
     }
-    if 57343 < a {
+    if 0xDFFF < a {
         return 2;
     }
-    if 56319 < a {
+    if 0xDBFF < a {
         return 0;
     }
     if s.len() < 4 {
         return 0;
     }
-    if b < 56320 {
+    if b < 0xDC00 {
         return 0;
     }
-    if 57343 < b {
+    if 0xDFFF < b {
         return 0;
     }
     4

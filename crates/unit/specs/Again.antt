@@ -37,7 +37,7 @@ two x h = omega arith
 three : (x : ℕ) → x < durations → x / 65536 % 256 * 65536 + (x / 256 % 256 * 256 + x % 256) ≡ x
 three x h = omega arith
 
-high : (a b : ℕ) → a ≤ partsMost → counts a b / 16 ≡ a
+high : (a b : ℕ) → a ≤ partsMost → counts a b / 16 % 16 ≡ a
 high a b h = omega arith
 
 low : (a b : ℕ) → b ≤ partsMost → counts a b % 16 ≡ b
@@ -60,7 +60,7 @@ framed U TYPE LEN used r x hu ht hm hr q hk hl hf e =
     (rw (a, b, two LEN hm, e, q) (ap (reading (1 + LEN)) (no _ _ (ge _ _ hk) (no _ _ hf refl))))))
 
 -- the least LEN, row by row
-leasts : (least 1 ≡ 8) × (least 2 ≡ 10) × (least 3 ≡ 7) × (least 4 ≡ 7) × (least 5 ≡ 4)
+pub leasts : (least 1 ≡ 8) × (least 2 ≡ 10) × (least 3 ≡ 7) × (least 4 ≡ 7) × (least 5 ≡ 4)
 unfolding least _⇒_⁏_ _=?_
 leasts = (refl, refl, refl, refl, refl)
 

@@ -31,15 +31,16 @@ modifiersPart TYPE TOTAL THIS SDUR n =
 abbrev pub description : (SIDX n : ℕ) → Unit
 description SIDX n = Description (record { sidx = SIDX; start = 4; len = n })
 
--- ---- the table: where the fields stand and what of LEN is data. TOTAL is the high half of a byte, THIS the low one
+-- ---- the table: where the fields stand and what of LEN is data. TOTAL is the high four bits of a byte, THIS
+-- the low four
 abbrev pub wholeAt : List ℕ → (U LEN : ℕ) → Unit
 wholeAt s U LEN = whole U (u8At s 3) (u24At s 4) (u16At s 7) (LEN - 8)
 
 abbrev pub stringAt : List ℕ → (U LEN : ℕ) → Unit
-stringAt s U LEN = Part (stringPart U (u8At s 3 / 16) (u8At s 3 % 16) (u24At s 4) (u8At s 7) (u16At s 8) (LEN - 9))
+stringAt s U LEN = Part (stringPart U (u8At s 3 / 16 % 16) (u8At s 3 % 16) (u24At s 4) (u8At s 7) (u16At s 8) (LEN - 9))
 
 abbrev pub modifiersAt : List ℕ → (TYPE LEN : ℕ) → Unit
-modifiersAt s TYPE LEN = Part (modifiersPart TYPE (u8At s 3 / 16) (u8At s 3 % 16) (u24At s 4) (LEN - 6))
+modifiersAt s TYPE LEN = Part (modifiersPart TYPE (u8At s 3 / 16 % 16) (u8At s 3 % 16) (u24At s 4) (LEN - 6))
 
 abbrev pub descriptionAt : List ℕ → (LEN : ℕ) → Unit
 descriptionAt s LEN = description (u8At s 3) (LEN - 3)

@@ -2,3 +2,5 @@ pub mod Layout
 pub mod Head
 pub mod Again
 pub mod Reads
+pub mod Converse
+pub mod Four

@@ -146,7 +146,7 @@ fn read_string(s: &[u8], u: usize, len: usize) -> Unit
     let counts = octets::byte(s, 3);
     Unit::Part(Part {
         kind: 2,
-        total: counts / 16,
+        total: counts / 16 % 16,
         this: counts % 16,
         sdur: octets::number24(s, 4),
         u,
@@ -163,7 +163,7 @@ fn read_modifiers(s: &[u8], kind: usize, len: usize) -> Unit
     let counts = octets::byte(s, 3);
     Unit::Part(Part {
         kind,
-        total: counts / 16,
+        total: counts / 16 % 16,
         this: counts % 16,
         sdur: octets::number24(s, 4),
         u: 0,

@@ -19,8 +19,8 @@ use Rattle.writer.specs.Cut.{strings, blocks}
 use Rattle.writer.specs.Parts.{cuts-all, blocks-count, block-at}
 use Rattle.writer.specs.Find.{found, sought, sought-count, sought-part, string-within}
 use Rattle.writer.specs.Write.{Caption, long, parts, partUnit, unwritable, uncut, after, written}
-use Rattle.writer.specs.Returns.{blockType, blockType-not, parts-count, string-at, block-of, Writable, Laid, returns-13, returns-none, returns-14, returns-payload, cut-count, uncut-empty, uncut-parts, cuttable, cut-unit, cut-data, string-unit, block-unit}
-use Rattle.writer.specs.declared.Found.{Found}
+use Rattle.writer.specs.Returns.{blockType, blockType-not, parts-count, string-at, block-of, Writable, PutDown, returns-13, returns-none, returns-14, returns-payload, cut-count, uncut-empty, uncut-parts, cuttable, cut-unit, cut-data, string-unit, block-unit}
+use Rattle.writer.specs.declared.PartFound.{PartFound}
 use Rattle.writer.specs.declared.Written.the-variants.{Payload, Refused}
 
 -- the string's parts, one after the other, are the string: each boundary leaves a well-formed string, and a character always fits
@@ -32,11 +32,11 @@ module _ (c : Caption) (M k : ℕ) (out : List ℕ) (w : unwritable c M (length 
   pub cut-empty : length (c .string) ≡ 0 → after (Refused R.Parts) out ≡ written c M k out
   cut-empty h = returns-13 c M k out w (uncut-empty c M l h)
 
-  module _ (v : Writable c M (length out)) (h : length (c .string) ≡ 0 → ⊥) (f : Found)
+  module _ (v : Writable c M (length out)) (h : length (c .string) ≡ 0 → ⊥) (f : PartFound)
       (q : f ≡ sought k 0 (found 0 0 0) (strings (c .U) (M - 10) (c .string)))
       (b : ℕ) (r : b ≡ (length (c .modifiers) + (M - 7 - 1)) / (M - 7)) (n : ℕ) (t : n ≡ f .count + b) where
     strings-count : f .count ≡ length (strings (c .U) (M - 10) (c .string))
-    strings-count = ap (λ (x : Found). x .count) q ∙ sought-count k 0 (found 0 0 0) (strings (c .U) (M - 10) (c .string)) ∙ omega arith
+    strings-count = ap (λ (x : PartFound). x .count) q ∙ sought-count k 0 (found 0 0 0) (strings (c .U) (M - 10) (c .string)) ∙ omega arith
 
     block-count : length (blocks (M - 7) (c .modifiers)) ≡ b
     block-count = blocks-count (M - 7) (omega (arith, v .least)) (c .modifiers) ∙ sym r
@@ -60,7 +60,7 @@ module _ (c : Caption) (M k : ℕ) (out : List ℕ) (w : unwritable c M (length 
 
         -- payload number k is part number k - 1 from 0, of TYPE ty with data d
         numbered : k ≤ n → (ty : ℕ) (d : List ℕ) → getD (parts c M) (k - 1) (piece 2 []) ≡ piece ty d → (x : Unit) → x ≡ partUnit c n k (piece ty d)
-            → (len : ℕ) (o : List ℕ) → Laid len o out x d → after (Payload len n) o ≡ written c M k out
+            → (len : ℕ) (o : List ℕ) → PutDown len o out x d → after (Payload len n) o ≡ written c M k out
         numbered m ty d g x e len o y =
             returns-payload c M k out w not-uncut some n (total-is ∙ sym (cut-count c M l)) m
             x (e ∙ sym (cut-unit c M l k ∙ rw (g, ← total-is)))
@@ -68,7 +68,7 @@ module _ (c : Caption) (M k : ℕ) (out : List ℕ) (w : unwritable c M (length 
             len (y .size) o (y .out)
 
         pub cut-string : k ≤ f .count → (d : List ℕ) → d ≡ part (f .from) (f .to - f .from) (c .string) → (len : ℕ) (o : List ℕ)
-            → Laid len o out (Part (stringPart (c .U) n k (c .SDUR) (c .SIDX) (length (c .string) + length (c .modifiers)) (length d))) d
+            → PutDown len o out (Part (stringPart (c .U) n k (c .SDUR) (c .SIDX) (length (c .string) + length (c .modifiers)) (length d))) d
             → after (Payload len n) o ≡ written c M k out
         cut-string m d e len o y =
             let ss = strings (c .U) (M - 10) (c .string) in
@@ -80,7 +80,7 @@ module _ (c : Caption) (M k : ℕ) (out : List ℕ) (w : unwritable c M (length 
             numbered (omega arith) 2 d z _ (rw (← (length-append (c .string) (c .modifiers))) (sym (string-unit c n k d))) len o y
 
         pub cut-block : f .count < k → k ≤ n → (j : ℕ) → j ≡ k - f .count - 1 → (d : List ℕ) → d ≡ part (j * (M - 7)) (M - 7) (c .modifiers)
-            → (ty : ℕ) → ty ≡ blockType j → (len : ℕ) (o : List ℕ) → Laid len o out (Part (modifiersPart ty n k (c .SDUR) (length d))) d
+            → (ty : ℕ) → ty ≡ blockType j → (len : ℕ) (o : List ℕ) → PutDown len o out (Part (modifiersPart ty n k (c .SDUR) (length d))) d
             → after (Payload len n) o ≡ written c M k out
         cut-block m p j i d e ty x len o y =
             let bs = blocks (M - 7) (c .modifiers) in

@@ -6,4 +6,4 @@ pub mod Returns
 pub mod Cuts
 pub mod Cutting
 pub mod Payloads
-pub mod Cases
+pub mod Answers

@@ -3,12 +3,12 @@
 use Prim.Native.Nat.{ℕ, _+_, _-_, _≤_, _<_}
 use native.Mathlib.Omega.{arith}
 use native.Mathlib.Decide.{decLt}
-use mathlib.Core.Path.{_≡_, refl, sym, _∙_}
+use mathlib.Core.Path.{_≡_, refl, _∙_}
 use mathlib.Core.Bool.{Bool, true, false}
-use mathlib.Core.Logic.{_⊎_, inl, inr, ⊎-elim}
+use mathlib.Core.Logic.{_⊎_, inl, inr}
 use mathlib.Core.List.{List, [], _++_}
 use lib.ListN.{length, getD, length-append}
-use Rattle.laws.specs.Rows.{each, ge-of, eq-of, ne-of, lt-of, and-of, or-of, or-none}
+use Rattle.laws.specs.Rows.{each, ge-of, ne-of, or-none}
 use Rattle.laws.specs.Rows as Rows
 use Rattle.paper.specs.Limits.{partsMost}
 use Rattle.joining.specs.Joining.{piece}
@@ -20,9 +20,7 @@ use Rattle.unit.specs.Head.{string-head, modifiers-head}
 use Rattle.unit.specs.Again.{Proper, whole-unit, string-unit, modifiers-unit, bytesOf, unit-again, data-again}
 use Rattle.writer.specs.Cut.{strings, blocks}
 use Rattle.writer.specs.Cutting.{string-each, block-each, strings-some}
-use Rattle.paper.specs.declared.Refusal.{Refusal}
-use Rattle.writer.specs.declared.Written.the-variants.{Payload, Refused}
-use Rattle.writer.specs.Write.{Caption, sample, long, parts, count, partUnit, wholeUnit, payloadData, payloadUnit, payload, uncut, After, written}
+use Rattle.writer.specs.Write.{Caption, sample, long, parts, count, partUnit, wholeUnit, payloadData, payloadUnit, payload, uncut}
 use Rattle.writer.specs.Returns.{Writable, blockType, blockType-not, parts-count, string-at, block-of, whole-count, cut-count, cut-unit, cut-data}
 use Rattle.writer.specs.Returns as Returns
 
@@ -126,26 +124,3 @@ module _ (c : Caption) (M room : ℕ) (v : Writable c M room) where
 
       pub payload-data : (more : List ℕ) → dataOf (payload c M k ++ more) (payloadUnit c M k) ≡ payloadData c M k
       payload-data more = data-again (payloadUnit c M k) (payloadData c M k) more (sent .proper)
-
--- ---- refusal 13 is given exactly if the sample does not fit and there is no string to cut or the rules give over 15 parts
-pub thirteen : (c : Caption) (M : ℕ) → uncut c M ≡ true → (long c M ≡ true) × ((length (c .string) ≡ 0) ⊎ (partsMost < length (parts c M)))
-unfolding uncut
-thirteen c M h =
-    let a = and-of _ _ h in
-    (a .0, ⊎-elim (λ e. inl (eq-of _ _ e)) (λ e. inr (omega (arith, lt-of _ _ e, cut-count c M (a .0)))) (or-of _ _ (a .1)))
-
--- ---- the count does not depend on the payload that is asked for, nor on the output
-count-is : (c : Caption) (M k : ℕ) (out : List ℕ) (len n : ℕ) → written c M k out .answer ≡ Payload len n → n ≡ count c M
-unfolding written
-count-is c M k out len n =
-    each (λ (a : After). a .answer ≡ Payload len n → n ≡ count c M) _ _ _ (λ q e. never e)
-    (λ q1. each (λ (a : After). a .answer ≡ Payload len n → n ≡ count c M) _ _ _ (λ q e. never e)
-    (λ q2. each (λ (a : After). a .answer ≡ Payload len n → n ≡ count c M) _ _ _ (λ q e. never e)
-    (λ q3. each (λ (a : After). a .answer ≡ Payload len n → n ≡ count c M) _ _ _ (λ q e. never e) (λ q4 e. cc))))
-  where
-    never : {r : Refusal} → Refused r ≡ Payload len n → n ≡ count c M
-    never e = let z : _≡_ {A = ℕ} 0 1 = cc in absurd (omega arith)
-
-pub same-count : (c : Caption) (M k k' : ℕ) (out out' : List ℕ) (len len' n n' : ℕ) → written c M k out .answer ≡ Payload len n
-    → written c M k' out' .answer ≡ Payload len' n' → n ≡ n'
-same-count c M k k' out out' len len' n n' e e' = count-is c M k out len n e ∙ sym (count-is c M k' out' len' n' e')

@@ -100,18 +100,18 @@ writable c M room h =
     }
 
 -- a unit and its data were laid over the front of `before`: `len` bytes, and `now` is the output
-pub record Laid (len : ℕ) (now before : List ℕ) (x : Unit) (d : List ℕ) : Type 0 where
+pub record PutDown (len : ℕ) (now before : List ℕ) (x : Unit) (d : List ℕ) : Type 0 where
   pub size : len ≡ length (bytesOf x d)
   pub out : now ≡ sets before 0 (bytesOf x d)
 
 pub lay-is : (x : Unit) (d before mid now : List ℕ) (n : ℕ) → n ≡ length (headOf x) → mid ≡ sets before 0 (headOf x) → now ≡ sets mid n d
-    → Laid (n + length d) now before x d
+    → PutDown (n + length d) now before x d
 lay-is x d before mid now n a b e =
     let z : 0 + length (headOf x) ≡ n = omega arith in
     record { size = rw a (sym (length-append (headOf x) d)); out = e ∙ rw (b, ← z) (sym (sets-append (headOf x) d before 0)) }
 
 -- and more data behind it
-pub lay-more : (x : Unit) (s m before mid now : List ℕ) (n : ℕ) → Laid n mid before x s → now ≡ sets mid n m → Laid (n + length m) now before x (s ++ m)
+pub lay-more : (x : Unit) (s m before mid now : List ℕ) (n : ℕ) → PutDown n mid before x s → now ≡ sets mid n m → PutDown (n + length m) now before x (s ++ m)
 lay-more x s m before mid now n l e =
     let g = append-assoc (headOf x) s m in
     let z : 0 + length (bytesOf x s) ≡ n = omega (arith, l .size) in
@@ -234,7 +234,7 @@ module _ (SIDX : ℕ) (d : List ℕ) (M k : ℕ) (out : List ℕ) where
       unfolding described
       described-14 h = no _ _ w (no _ _ (ge _ _ m) (no _ _ (ne _ _ h) refl))
 
-      pub described-payload : k ≡ 1 → (len : ℕ) (o : List ℕ) → Laid len o out (description SIDX (length d)) d → after (Payload len 1) o ≡ described SIDX d M k out
+      pub described-payload : k ≡ 1 → (len : ℕ) (o : List ℕ) → PutDown len o out (description SIDX (length d)) d → after (Payload len 1) o ≡ described SIDX d M k out
       unfolding described
       described-payload h len o y =
           let z : len ≡ length d + 4 = omega (arith, y .size) in

@@ -2,11 +2,12 @@
 -- Assumes nothing.
 use Prim.Native.Nat.{ℕ, _+_, _-_}
 use mathlib.Core.Bool.{Bool, not}
-use mathlib.Core.List.{List, [], _++_}
+use mathlib.Core.List.{List, [], _∷_, _++_}
 use lib.ListN.{length, getD}
 use lib.Seq.{sets}
 use Rattle.laws.specs.Rows.{_⇒_⁏_, _or_, _and_, _<?_, _=?_}
 use Rattle.paper.specs.Limits.{sampleMost, descriptionMost, partsMost, inBand, reserved, sizeLeast, sizeMost, durations}
+use Rattle.paper.specs.Words.{numberOf}
 use Rattle.paper.specs.declared.Refusal.the-variants as R
 use Rattle.text.specs.Unicode.{wellFormed}
 use Rattle.unit.specs.declared.Unit.{Unit}
@@ -17,6 +18,15 @@ use Rattle.joining.specs.Joining.{Piece, piece}
 use Rattle.writer.specs.Cut.{pieces}
 use Rattle.writer.specs.declared.Written.{Written}
 use Rattle.writer.specs.declared.Written.the-variants.{Payload, Refused}
+
+-- ---- the answer: its number, 0 for a payload, and the values that go with it, length and how many payloads there are
+abbrev pub writtenNumber : Written → ℕ
+writtenNumber (Payload len count) = 0
+writtenNumber (Refused r) = numberOf r
+
+abbrev pub writtenValues : Written → List ℕ
+writtenValues (Payload len count) = len ∷ count ∷ []
+writtenValues (Refused r) = []
 
 -- what is to be sent
 pub record Caption : Type 0 where

@@ -26,7 +26,7 @@ ghost use Rattle.unit.specs.Layout.{stringPart, modifiersPart};
 ghost use Rattle.unit.specs.declared.Unit.the-variants.{Part as PartUnit};
 ghost use Rattle.writer.specs.Cut.{strings};
 ghost use Rattle.writer.specs.Find.{found, turned, sought};
-ghost use Rattle.writer.specs.Returns.{Writable, Laid, blockType};
+ghost use Rattle.writer.specs.Returns.{Writable, PutDown, blockType};
 ghost use Rattle.writer.specs.Write.{caption, long, unsized, illFormed, unwritable, wholeUnit, undescribed, after, written, described};
 
 // A payload's length and how many payloads there are; or the refusal.
@@ -36,7 +36,7 @@ pub enum Written {
 }
 
 // How many string parts were passed, and from where to where the wanted one goes.
-pub struct Found {
+pub struct PartFound {
     pub count: usize,
     pub from: usize,
     pub to: usize,
@@ -95,19 +95,19 @@ fn is_unwritable(
     is_unsized(m, room)
 }
 
-fn turn(number: usize, f: Found, e: usize, next: usize) -> Found
+fn turn(number: usize, f: PartFound, e: usize, next: usize) -> PartFound
     requires { ⌜ f .count < next ⌝ }
     ensures { λ r. ⌜ r ≡ turned number f e next ⌝ }
 {
     let count = f.count + 1;
     if count == number {
-        return Found {
+        return PartFound {
             count,
             from: e,
             to: next,
         };
     }
-    Found {
+    PartFound {
         count,
         from: f.from,
         to: f.to,
@@ -115,11 +115,11 @@ fn turn(number: usize, f: Found, e: usize, next: usize) -> Found
 }
 
 // Passes over the string part by part, each as long as possible within k bytes: counts the parts, and finds the one of the number.
-fn find(u: usize, s: &[u8], k: usize, number: usize) -> Found
+fn find(u: usize, s: &[u8], k: usize, number: usize) -> PartFound
     requires { ⌜ k < 65536 ⌝ }
     ensures { λ r. ⌜ (r ≡ sought number 0 (found 0 0 0) (strings u k (now (s .entry)))) × (r .count ≤ length (now (s .entry))) ⌝ }
 {
-    let mut f = Found {
+    let mut f = PartFound {
         count: 0,
         from: 0,
         to: 0,
@@ -137,7 +137,7 @@ fn find(u: usize, s: &[u8], k: usize, number: usize) -> Found
 
 // A unit's header and its data at the front of the output; answers how many bytes they are.
 fn lay(out: &mut [u8], x: Unit, d: &[u8]) -> usize
-    ensures { λ r. ⌜ Laid r (now (out .exit)) (now (out .entry)) x (now (d .entry)) ⌝ }
+    ensures { λ r. ⌜ PutDown r (now (out .exit)) (now (out .entry)) x (now (d .entry)) ⌝ }
 {
     let n = unit::put_head(out, x);
     octets::put(out, n, d);
@@ -153,7 +153,7 @@ fn write_whole(
     out: &mut [u8],
 ) -> usize
     requires { ⌜ length (now string) + length (now modifiers) ≤ sampleMost ⌝ }
-    ensures { λ r. ⌜ Laid r (now (out .exit)) (now (out .entry)) (wholeUnit (caption u sidx sdur (now (string .entry)) (now (modifiers .entry)))) (now (string .entry) ++ now (modifiers .entry)) ⌝ }
+    ensures { λ r. ⌜ PutDown r (now (out .exit)) (now (out .entry)) (wholeUnit (caption u sidx sdur (now (string .entry)) (now (modifiers .entry)))) (now (string .entry) ++ now (modifiers .entry)) ⌝ }
 {
     let x = Unit::Whole(Whole {
         u,
@@ -178,7 +178,7 @@ fn write_string(
     d: &[u8],
     out: &mut [u8],
 ) -> usize
-    ensures { λ r. ⌜ Laid r (now (out .exit)) (now (out .entry)) (PartUnit (stringPart u total this sdur sidx slen (length (now (d .entry))))) (now (d .entry)) ⌝ }
+    ensures { λ r. ⌜ PutDown r (now (out .exit)) (now (out .entry)) (PartUnit (stringPart u total this sdur sidx slen (length (now (d .entry))))) (now (d .entry)) ⌝ }
 {
     let x = Unit::Part(Part {
         kind: 2,
@@ -202,7 +202,7 @@ fn write_block(
     d: &[u8],
     out: &mut [u8],
 ) -> usize
-    ensures { λ r. ⌜ Laid r (now (out .exit)) (now (out .entry)) (PartUnit (modifiersPart kind total this sdur (length (now (d .entry))))) (now (d .entry)) ⌝ }
+    ensures { λ r. ⌜ PutDown r (now (out .exit)) (now (out .entry)) (PartUnit (modifiersPart kind total this sdur (length (now (d .entry))))) (now (d .entry)) ⌝ }
 {
     let x = Unit::Part(Part {
         kind,

@@ -46,7 +46,7 @@ pub fn step(modifiers: &[u8], at: usize) -> Step<'_> {
             contents: &modifiers[at + HEADER..next],
             next,
         },
-        number => Step::Refused(Refusal::told(number)),
+        _ => Step::Refused(Refusal::told(row[2])),
     }
 }
 

@@ -26,4 +26,4 @@ put-stepped-spec =
     (λ c. search needs)
     (λ c. (c .before .before .put-three .ensures) ∙ ap (λ (x : Found). sets (now (c .before .before .before .before .before .before .before .before .args .row)) 0 (steppedRow (c .before .before .before .before .before .before .before .before .args .next) x)) (sym (c .before .before .before .before .before .f .given .1)))
     (λ c. search needs)
-    (λ c. (c .before .before .put-two2 .ensures) ∙ ap (λ (y : ℕ). sets (now (c .before .before .before .before .before .before .before .before .before .args .row)) 0 (c .before .before .before .before .before .before .before .before .before .args .next ∷ y ∷ [])) (c .before .before .before .number .ensures) ∙ ap (λ (x : Found). sets (now (c .before .before .before .before .before .before .before .before .before .args .row)) 0 (steppedRow (c .before .before .before .before .before .before .before .before .before .args .next) x)) (sym (c .before .before .before .before .before .before .f2 .given .1))))
+    (λ c. (c .before .before .put-three2 .ensures) ∙ ap (λ (y : ℕ). sets (now (c .before .before .before .before .before .before .before .before .before .args .row)) 0 (c .before .before .before .before .before .before .before .before .before .args .next ∷ 2 ∷ y ∷ [])) (c .before .before .before .number .ensures) ∙ ap (λ (x : Found). sets (now (c .before .before .before .before .before .before .before .before .before .args .row)) 0 (steppedRow (c .before .before .before .before .before .before .before .before .before .args .next) x)) (sym (c .before .before .before .before .before .before .f2 .given .1))))

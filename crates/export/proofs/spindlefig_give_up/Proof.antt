@@ -47,7 +47,8 @@ use Rattle.desk.proofs.GivenUp as N
 use Rattle.desk.proofs.GivenUp.Laws as N′
 use Rattle.relay.specs.Relay.{Released, released, givenUpAt, tables as lent-tables}
 use Rattle.relay.specs.Back.{given-up-any}
-use Rattle.export.specs.Export.{relayWith, givenUpNumber, releasedAs}
+use Rattle.desk.specs.Desk.{givenUpNumber}
+use Rattle.export.specs.Export.{relayWith, releasedAs}
 use Rattle.relay.proofs.give_up as give-up′
 use Rattle.relay.proofs.give_up.Symbol as give-up′-def
 use Rattle.relay.proofs.give_up.Symbol.{name as #give-up′}

@@ -42,8 +42,8 @@ use denote.Enum.Laws as EL
 use Rattle.relay.specs.declared.Started.{Started}
 use Rattle.relay.proofs.Started as N
 use Rattle.relay.proofs.Started.Laws as N′
-use Rattle.relay.specs.Relay.{Made, made, setUp, tables as lent-tables}
-use Rattle.export.specs.Export.{startedNumber}
+use Rattle.relay.specs.Relay.{Prepared, prepared, setUp, tables as lent-tables}
+use Rattle.relay.specs.Relay.{startedNumber}
 use Rattle.relay.proofs.set_up as set-up′
 use Rattle.relay.proofs.set_up.Symbol as set-up′-def
 use Rattle.relay.proofs.set_up.Symbol.{name as #set-up′}
@@ -80,7 +80,7 @@ module _ {M : Type 1} (𝓤 : URA M) (H : Heap 𝓤) (A : Atoms 𝓤) (W : Given
   abbrev vs : Vals me.signature (κplaces, (κrows, (κmarks, (κstores, tt))))
   vs = ((vint w64 n) ∷ [], (slice bplaces oplaces places ∷ [], (slice brows orows rows ∷ [], (slice bmarks omarks marks ∷ [], (slice bstores ostores stores ∷ [], tt)))))
 
-  abbrev left : Made
+  abbrev left : Prepared
   left = setUp n (lent-tables places rows marks stores)
 
   abbrev Post : Val → SProp 𝓤
@@ -126,14 +126,14 @@ module _ {M : Type 1} (𝓤 : URA M) (H : Heap 𝓤) (A : Atoms 𝓤) (W : Given
         move ! (9 ∷ 6 ∷ 3 ∷ 0 ∷ 10 ∷ 7 ∷ 4 ∷ 1 ∷ []) $ group ! 8 $ use1 W (raw (SetUp 𝓤 H A mem run .pre (to0 ν0places δ0places ν0rows δ0rows ν0marks δ0marks ν0stores δ0stores))) (goes0 ν0places δ0places ν0rows δ0rows ν0marks δ0marks ν0stores δ0stores fitsn) $
         calls-at ! fm (SetUp 𝓤 H A mem run) known-set-up′ (to0 ν0places δ0places ν0rows δ0rows ν0marks δ0marks ν0stores δ0stores) (and-then ! (load ! (from ! (stop !)) (look ! 31 refl)) (and-then ! (load ! (from ! (stop !)) (look ! 17 refl)) (and-then ! (load ! (from ! (stop !)) (look ! 13 refl)) (and-then ! (load ! (from ! (stop !)) (look ! 9 refl)) (and-then ! (load ! (from ! (stop !)) (look ! 5 refl)) (no-more !)))))) (λ w0.
         use1 W (later (some (λ (r : Started). ((‵ (flft (ν0places ∷ []) fullShare) ⊛ (‵ (flft (ν0rows ∷ []) fullShare) ⊛ (‵ (flft (ν0marks ∷ []) fullShare) ⊛ (‵ (flft (ν0stores ∷ []) fullShare) ⊛ ‵ ftrue)))) ⊛ ‵ (N.the-row .own r (w0 ∷ []))) ⊛ raw (ensured 𝓤 H A set-up′.ended (set-up′.clauses 𝓤 H A mem run) (ν0places ∷ [], (ν0rows ∷ [], (ν0marks ∷ [], (ν0stores ∷ [], tt)))) (n, (Ref bplaces oplaces δ0places places, (Ref brows orows δ0rows rows, (Ref bmarks omarks δ0marks marks, (Ref bstores ostores δ0stores stores, tt))))) tt r)))) (id⊢ 𝓤 _) $ await ! tt $ pick ! (λ r0.
-        split ! $ move ! (1 ∷ []) $ use1 W (some (λ (ls0 : (Unit {0} × (List Place × (List ℕ × (List ℕ × (List ℕ × Unit {0})))))). ‵ (lasts set-up′.ended (ν0places ∷ [], (ν0rows ∷ [], (ν0marks ∷ [], (ν0stores ∷ [], tt)))) (n, (Ref bplaces oplaces δ0places places, (Ref brows orows δ0rows rows, (Ref bmarks omarks δ0marks marks, (Ref bstores ostores δ0stores stores, tt))))) ls0) ⊛ raw (fact 𝓤 (made (lent-tables (ls0 .1 .0) (ls0 .1 .1 .0) (ls0 .1 .1 .1 .0) (ls0 .1 .1 .1 .1 .0)) r0 ≡ left)))) (id⊢ 𝓤 _) $ pick ! (λ ls0.
-        split ! $ move ! (1 ∷ []) $ heard ! (made (lent-tables (ls0 .1 .0) (ls0 .1 .1 .0) (ls0 .1 .1 .1 .0) (ls0 .1 .1 .1 .1 .0)) r0 ≡ left) (λ e0. fsplit ! $ drop ! $ fsplit ! $ move ! (1 ∷ []) $ fsplit ! $ move ! (1 ∷ []) $ fsplit ! $ move ! (1 ∷ []) $ fsplit ! $ move ! (1 ∷ []) $ drop ! $ move ! (4 ∷ []) $ split ! $ move ! (1 ∷ []) $ landed ! N.the-row (EL.val N.the-type N′.the-laws) (EL.tells N.the-type N′.the-laws) (left .answer) r0 (ap (λ (z : Made). z .answer) e0) w0 (λ is0.
+        split ! $ move ! (1 ∷ []) $ use1 W (some (λ (ls0 : (Unit {0} × (List Place × (List ℕ × (List ℕ × (List ℕ × Unit {0})))))). ‵ (lasts set-up′.ended (ν0places ∷ [], (ν0rows ∷ [], (ν0marks ∷ [], (ν0stores ∷ [], tt)))) (n, (Ref bplaces oplaces δ0places places, (Ref brows orows δ0rows rows, (Ref bmarks omarks δ0marks marks, (Ref bstores ostores δ0stores stores, tt))))) ls0) ⊛ raw (fact 𝓤 (prepared (lent-tables (ls0 .1 .0) (ls0 .1 .1 .0) (ls0 .1 .1 .1 .0) (ls0 .1 .1 .1 .1 .0)) r0 ≡ left)))) (id⊢ 𝓤 _) $ pick ! (λ ls0.
+        split ! $ move ! (1 ∷ []) $ heard ! (prepared (lent-tables (ls0 .1 .0) (ls0 .1 .1 .0) (ls0 .1 .1 .1 .0) (ls0 .1 .1 .1 .1 .0)) r0 ≡ left) (λ e0. fsplit ! $ drop ! $ fsplit ! $ move ! (1 ∷ []) $ fsplit ! $ move ! (1 ∷ []) $ fsplit ! $ move ! (1 ∷ []) $ fsplit ! $ move ! (1 ∷ []) $ drop ! $ move ! (4 ∷ []) $ split ! $ move ! (1 ∷ []) $ landed ! N.the-row (EL.val N.the-type N′.the-laws) (EL.tells N.the-type N′.the-laws) (left .answer) r0 (ap (λ (z : Prepared). z .answer) e0) w0 (λ is0.
         land ! (from ! (stop !)) (init ! 25 refl (EL.lawful N.the-type N′.the-laws 𝓤 H A W tt .typed (left .answer) _ is0 .0)) $
         split ! $ move ! (1 ∷ []) $ split ! $ move ! (1 ∷ []) $ split ! $ move ! (1 ∷ []) $ split ! $ move ! (1 ∷ []) $ drop ! $
-        move ! (3 ∷ 7 ∷ 11 ∷ []) $ back-mut ! tt P.the-row κplaces ν0places qplaces γplaces δ0places bplaces oplaces places (ls0 .1 .0) (left .tables .places) (slice bplaces oplaces places ∷ []) (ap (λ (z : Made). z .tables .places) e0) $
-        move ! (4 ∷ 7 ∷ 10 ∷ []) $ back-mut ! tt u32 κrows ν0rows qrows γrows δ0rows brows orows rows (ls0 .1 .1 .0) (left .tables .rows) (slice brows orows rows ∷ []) (ap (λ (z : Made). z .tables .rows) e0) $
-        move ! (5 ∷ 7 ∷ 9 ∷ []) $ back-mut ! tt u32 κmarks ν0marks qmarks γmarks δ0marks bmarks omarks marks (ls0 .1 .1 .1 .0) (left .tables .marks) (slice bmarks omarks marks ∷ []) (ap (λ (z : Made). z .tables .marks) e0) $
-        move ! (6 ∷ 7 ∷ 8 ∷ []) $ back-mut ! tt u8 κstores ν0stores qstores γstores δ0stores bstores ostores stores (ls0 .1 .1 .1 .1 .0) (left .tables .stores) (slice bstores ostores stores ∷ []) (ap (λ (z : Made). z .tables .stores) e0) $
+        move ! (3 ∷ 7 ∷ 11 ∷ []) $ back-mut ! tt P.the-row κplaces ν0places qplaces γplaces δ0places bplaces oplaces places (ls0 .1 .0) (left .tables .places) (slice bplaces oplaces places ∷ []) (ap (λ (z : Prepared). z .tables .places) e0) $
+        move ! (4 ∷ 7 ∷ 10 ∷ []) $ back-mut ! tt u32 κrows ν0rows qrows γrows δ0rows brows orows rows (ls0 .1 .1 .0) (left .tables .rows) (slice brows orows rows ∷ []) (ap (λ (z : Prepared). z .tables .rows) e0) $
+        move ! (5 ∷ 7 ∷ 9 ∷ []) $ back-mut ! tt u32 κmarks ν0marks qmarks γmarks δ0marks bmarks omarks marks (ls0 .1 .1 .1 .0) (left .tables .marks) (slice bmarks omarks marks ∷ []) (ap (λ (z : Prepared). z .tables .marks) e0) $
+        move ! (6 ∷ 7 ∷ 8 ∷ []) $ back-mut ! tt u8 κstores ν0stores qstores γstores δ0stores bstores ostores stores (ls0 .1 .1 .1 .1 .0) (left .tables .stores) (slice bstores ostores stores ∷ []) (ap (λ (z : Prepared). z .tables .stores) e0) $
         -- `export::started_number`
         use0 W (raw (StartedNumber 𝓤 H A mem run .pre (to1))) (goes1 is0) $
         calls-said ! fm started-number′.ended (started-number′.clauses 𝓤 H A mem run) known-started-number′ (to1) (λ r. r ≡ startedNumber (left .answer)) (λ r e. id⊢ 𝓤 _) (and-then ! (load ! (from ! (stop !)) (look ! 25 refl)) (no-more !)) (λ w1 r1 e1.

@@ -11,4 +11,4 @@ give-up-spec =
     (λ c. search needs)
     (λ c. search needs)
     (λ c κs. search needs)
-    (λ c. (c .before .before .before .give-up .ensures (c .before .before .before .before .before .before .before .before .before .before .before .before .args .h .stores), refl)))
+    (λ c. (c .before .before .before .give-up .ensures (c .before .before .before .before .before .before .before .before .before .before .before .before .args .h .stores), refl, refl)))

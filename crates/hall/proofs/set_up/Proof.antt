@@ -1,8 +1,9 @@
 -- `hall::set_up` meets its contract. Assumes nothing.
-use mathlib.Core.Path.{ap, _∙_}
+use mathlib.Core.Path.{refl, ap, _∙_}
 use lib.ListN.{replicate}
+use Rattle.paper.specs.Limits.{placesMost, rowsMost, marksMost, storesMost}
 use Rattle.sample.specs.declared.Place.{Place}
-use Rattle.relay.specs.Relay.{tables, Made, setUp}
+use Rattle.relay.specs.Relay.{tables, Prepared, setUp}
 use Rattle.hall.specs.Hall.{relayOf}
 use borrow.Author.Needs.{needs}
 use Rattle.hall.proofs.set_up.Statement.{statement}
@@ -18,4 +19,4 @@ set-up-spec =
     (λ c. search needs)
     (λ c κs. search needs)
     (λ c κs. search needs)
-    (λ c. let e = c .before .before .before .before .before .set-up .ensures ∙ ap (λ (p : Place). setUp (c .before .before .before .before .before .before .before .before .before .before .args .n) (tables (replicate 32 p) (replicate 128 7) (replicate 16 7) (replicate 133120 7))) (c .before .before .before .before .before .before .before .before .before .closed .ensures) in (ap (λ (m : Made). m .tables) e, c .relay-of .ensures ∙ ap (λ (m : Made). relayOf (m .answer)) e)))
+    (λ c. let e = c .before .before .before .before .before .set-up .ensures ∙ ap (λ (p : Place). setUp (c .before .before .before .before .before .before .before .before .before .before .args .n) (tables (replicate placesMost p) (replicate rowsMost 7) (replicate marksMost 7) (replicate storesMost 7))) (c .before .before .before .before .before .before .before .before .before .closed .ensures) in (ap (λ (m : Prepared). m .tables) e, c .relay-of .ensures ∙ ap (λ (m : Prepared). relayOf (m .answer)) e, refl)))

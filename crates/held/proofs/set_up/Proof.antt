@@ -51,7 +51,7 @@ use Rattle.relay.proofs.Started.Laws as N′
 use Rattle.held.proofs.Begun as B
 use Rattle.held.proofs.Begun.Laws as B′
 use Rattle.held.specs.Held.{begun}
-use Rattle.relay.specs.Relay.{Made, made, setUp, tables as lent-tables}
+use Rattle.relay.specs.Relay.{Prepared, prepared, setUp, tables as lent-tables}
 use Rattle.walks.proofs.Rows.{Ref, kept-long, free-at, lent-mut, back-mut}
 use Rattle.walks.proofs.Lent.{lent-array, back-array}
 use Rattle.relay.proofs.set_up as set-up′
@@ -91,7 +91,7 @@ module _ {M : Type 1} (𝓤 : URA M) (H : Heap 𝓤) (A : Atoms 𝓤) (W : Given
   abbrev vs : Vals me.signature (κrows, (κmarks, (κstores, tt)))
   vs = ((vint w64 n) ∷ [], ((tabVal places) ∷ [], (slice brows orows rows ∷ [], (slice bmarks omarks marks ∷ [], (slice bstores ostores stores ∷ [], tt)))))
 
-  abbrev left : Made
+  abbrev left : Prepared
   left = setUp n (lent-tables places rows marks stores)
 
   abbrev Post : Val → SProp 𝓤
@@ -140,17 +140,17 @@ module _ {M : Type 1} (𝓤 : URA M) (H : Heap 𝓤) (A : Atoms 𝓤) (W : Given
         move ! (9 ∷ 6 ∷ 3 ∷ 0 ∷ 10 ∷ 7 ∷ 4 ∷ 1 ∷ []) $ group ! 8 $ use1 W (raw (SetUp 𝓤 H A mem run .pre (to0 l6 ν0a6 δ0a6 ν0rows δ0rows ν0marks δ0marks ν0stores δ0stores))) (goes0 l6 ν0a6 δ0a6 ν0rows δ0rows ν0marks δ0marks ν0stores δ0stores fitsn) $
         calls-at ! fm (SetUp 𝓤 H A mem run) known-set-up′ (to0 l6 ν0a6 δ0a6 ν0rows δ0rows ν0marks δ0marks ν0stores δ0stores) (and-then ! (load ! (from ! (stop !)) (look ! 34 refl)) (and-then ! (load ! (from ! (stop !)) (look ! 19 refl)) (and-then ! (load ! (from ! (stop !)) (look ! 15 refl)) (and-then ! (load ! (from ! (stop !)) (look ! 11 refl)) (and-then ! (load ! (from ! (stop !)) (look ! 7 refl)) (no-more !)))))) (λ w0.
         use1 W (later (some (λ (r : Started). ((‵ (flft (ν0a6 ∷ []) fullShare) ⊛ (‵ (flft (ν0rows ∷ []) fullShare) ⊛ (‵ (flft (ν0marks ∷ []) fullShare) ⊛ (‵ (flft (ν0stores ∷ []) fullShare) ⊛ ‵ ftrue)))) ⊛ ‵ (N.the-row .own r (w0 ∷ []))) ⊛ raw (ensured 𝓤 H A set-up′.ended (set-up′.clauses 𝓤 H A mem run) (ν0a6 ∷ [], (ν0rows ∷ [], (ν0marks ∷ [], (ν0stores ∷ [], tt)))) (n, (Ref l6 0 δ0a6 places, (Ref brows orows δ0rows rows, (Ref bmarks omarks δ0marks marks, (Ref bstores ostores δ0stores stores, tt))))) tt r)))) (id⊢ 𝓤 _) $ await ! tt $ pick ! (λ r0.
-        split ! $ move ! (1 ∷ []) $ use1 W (some (λ (ls0 : (Unit {0} × (List Place × (List ℕ × (List ℕ × (List ℕ × Unit {0})))))). ‵ (lasts set-up′.ended (ν0a6 ∷ [], (ν0rows ∷ [], (ν0marks ∷ [], (ν0stores ∷ [], tt)))) (n, (Ref l6 0 δ0a6 places, (Ref brows orows δ0rows rows, (Ref bmarks omarks δ0marks marks, (Ref bstores ostores δ0stores stores, tt))))) ls0) ⊛ raw (fact 𝓤 (made (lent-tables (ls0 .1 .0) (ls0 .1 .1 .0) (ls0 .1 .1 .1 .0) (ls0 .1 .1 .1 .1 .0)) r0 ≡ left)))) (id⊢ 𝓤 _) $ pick ! (λ ls0.
-        split ! $ move ! (1 ∷ []) $ heard ! (made (lent-tables (ls0 .1 .0) (ls0 .1 .1 .0) (ls0 .1 .1 .1 .0) (ls0 .1 .1 .1 .1 .0)) r0 ≡ left) (λ e0. fsplit ! $ drop ! $ fsplit ! $ move ! (1 ∷ []) $ fsplit ! $ move ! (1 ∷ []) $ fsplit ! $ move ! (1 ∷ []) $ fsplit ! $ move ! (1 ∷ []) $ drop ! $ move ! (4 ∷ []) $ split ! $ move ! (1 ∷ []) $ landed ! N.the-row (EL.val N.the-type N′.the-laws) (EL.tells N.the-type N′.the-laws) (left .answer) r0 (ap (λ (z : Made). z .answer) e0) w0 (λ is0.
+        split ! $ move ! (1 ∷ []) $ use1 W (some (λ (ls0 : (Unit {0} × (List Place × (List ℕ × (List ℕ × (List ℕ × Unit {0})))))). ‵ (lasts set-up′.ended (ν0a6 ∷ [], (ν0rows ∷ [], (ν0marks ∷ [], (ν0stores ∷ [], tt)))) (n, (Ref l6 0 δ0a6 places, (Ref brows orows δ0rows rows, (Ref bmarks omarks δ0marks marks, (Ref bstores ostores δ0stores stores, tt))))) ls0) ⊛ raw (fact 𝓤 (prepared (lent-tables (ls0 .1 .0) (ls0 .1 .1 .0) (ls0 .1 .1 .1 .0) (ls0 .1 .1 .1 .1 .0)) r0 ≡ left)))) (id⊢ 𝓤 _) $ pick ! (λ ls0.
+        split ! $ move ! (1 ∷ []) $ heard ! (prepared (lent-tables (ls0 .1 .0) (ls0 .1 .1 .0) (ls0 .1 .1 .1 .0) (ls0 .1 .1 .1 .1 .0)) r0 ≡ left) (λ e0. fsplit ! $ drop ! $ fsplit ! $ move ! (1 ∷ []) $ fsplit ! $ move ! (1 ∷ []) $ fsplit ! $ move ! (1 ∷ []) $ fsplit ! $ move ! (1 ∷ []) $ drop ! $ move ! (4 ∷ []) $ split ! $ move ! (1 ∷ []) $ landed ! N.the-row (EL.val N.the-type N′.the-laws) (EL.tells N.the-type N′.the-laws) (left .answer) r0 (ap (λ (z : Prepared). z .answer) e0) w0 (λ is0.
         land ! (from ! (stop !)) (init ! 27 refl (EL.lawful N.the-type N′.the-laws 𝓤 H A W tt .typed (left .answer) _ is0 .0)) $
         split ! $ move ! (1 ∷ []) $ split ! $ move ! (1 ∷ []) $ split ! $ move ! (1 ∷ []) $ split ! $ move ! (1 ∷ []) $ drop ! $
         move ! (3 ∷ 7 ∷ 11 ∷ []) $ back-array ! tt P.the-row (LL.vals P.the-type P′.the-laws) (LL.tells P.the-type P′.the-laws) 32 l6 places (ls0 .1 .0) (fitsplaces .1 .0 .1) ν0a6 δ0a6 _ refl $
-        rewrite ! 0 (λ (l : List Place). ‵ (fat fullShare (tyArray (lone (P.the-row .mir)) 32) l6 0 (tabVal l))) (ap (λ (z : Made). z .tables .places) e0) refl $
-        rewrite ! 1 (λ (l : List Place). ‵ (Table .own l (tabVal l ∷ []))) (ap (λ (z : Made). z .tables .places) e0) refl $
+        rewrite ! 0 (λ (l : List Place). ‵ (fat fullShare (tyArray (lone (P.the-row .mir)) 32) l6 0 (tabVal l))) (ap (λ (z : Prepared). z .tables .places) e0) refl $
+        rewrite ! 1 (λ (l : List Place). ‵ (Table .own l (tabVal l ∷ []))) (ap (λ (z : Prepared). z .tables .places) e0) refl $
         move ! (1 ∷ []) $ peeks ! Table (Is Table) (shows 𝓤 H A Table) (left .tables .places) (tabVal (left .tables .places) ∷ []) (λ isA0. drop ! $
-        move ! (3 ∷ 6 ∷ 9 ∷ []) $ back-mut ! tt u32 κrows ν0rows qrows γrows δ0rows brows orows rows (ls0 .1 .1 .0) (left .tables .rows) (slice brows orows rows ∷ []) (ap (λ (z : Made). z .tables .rows) e0) $
-        move ! (4 ∷ 6 ∷ 8 ∷ []) $ back-mut ! tt u32 κmarks ν0marks qmarks γmarks δ0marks bmarks omarks marks (ls0 .1 .1 .1 .0) (left .tables .marks) (slice bmarks omarks marks ∷ []) (ap (λ (z : Made). z .tables .marks) e0) $
-        move ! (5 ∷ 6 ∷ 7 ∷ []) $ back-mut ! tt u8 κstores ν0stores qstores γstores δ0stores bstores ostores stores (ls0 .1 .1 .1 .1 .0) (left .tables .stores) (slice bstores ostores stores ∷ []) (ap (λ (z : Made). z .tables .stores) e0) $
+        move ! (3 ∷ 6 ∷ 9 ∷ []) $ back-mut ! tt u32 κrows ν0rows qrows γrows δ0rows brows orows rows (ls0 .1 .1 .0) (left .tables .rows) (slice brows orows rows ∷ []) (ap (λ (z : Prepared). z .tables .rows) e0) $
+        move ! (4 ∷ 6 ∷ 8 ∷ []) $ back-mut ! tt u32 κmarks ν0marks qmarks γmarks δ0marks bmarks omarks marks (ls0 .1 .1 .1 .0) (left .tables .marks) (slice bmarks omarks marks ∷ []) (ap (λ (z : Prepared). z .tables .marks) e0) $
+        move ! (5 ∷ 6 ∷ 7 ∷ []) $ back-mut ! tt u8 κstores ν0stores qstores γstores δ0stores bstores ostores stores (ls0 .1 .1 .1 .1 .0) (left .tables .stores) (slice bstores ostores stores ∷ []) (ap (λ (z : Prepared). z .tables .stores) e0) $
         assigns ! (of-opd ! (load ! (from ! (stop !)) (look ! 6 refl))) (from ! (stop !)) (init ! 7 refl ((array-lawful 𝓤 H A W P.the-row (LL.lawful P.the-type P′.the-laws 𝓤 H A W) 32) .typed (left .tables .places) _ isA0 .0)) $
         -- `held::begun_of`
         use0 W (raw (BegunOf 𝓤 H A mem run .pre (to1))) (goes1 isA0 is0) $

@@ -6,7 +6,7 @@ use native.Mathlib.Omega.{arith}
 use borrow.Fn.Kinds.{In}
 use borrow.Fn.PlainCycle.{Measures, is, falls, and}
 use Rattle.lines.specs.Digits.{digits-one, digits-more}
-use Rattle.lines.specs.Written.{then}
+use Rattle.lines.specs.Typed.{then}
 use Rattle.lines.proofs.put_digit.Reads as digit
 use Rattle.lines.proofs.put_number.Reads as number
 use Rattle.lines.proofs.put_number.Kinds as kinds

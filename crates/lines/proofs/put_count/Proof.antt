@@ -1,6 +1,6 @@
 -- `lines::put_count` meets its contract. Assumes nothing.
 use borrow.Author.Needs.{needs}
-use Rattle.lines.specs.Written.{then}
+use Rattle.lines.specs.Typed.{then}
 use Rattle.lines.proofs.put_count.Statement.{statement}
 use Rattle.lines.proofs.put_count.Tie as tie
 

@@ -6,7 +6,7 @@ use mathlib.Core.Path.{_≡_, refl, _∙_}
 use denote.Ref.{now}
 use lib.ListN.{length}
 use Rattle.relay.specs.Relay.{tables}
-use Rattle.lines.specs.Written.{written}
+use Rattle.lines.specs.Typed.{typed}
 use Rattle.list.specs.Listed.{linesFrom}
 use Rattle.list.specs.Runs.{Listing, begin, called-of, turn, turn-used, finish}
 use Rattle.list.proofs.list_units.Statement.{statement}
@@ -14,7 +14,7 @@ use Rattle.list.proofs.list_units.Tie as tie
 
 abbrev Inv-loop : tie.InvT-loop
 Inv-loop relay rows₀ marks₀ stores₀ input text₀ places₀ time₀ at₀ next₀ many rows marks stores text places time at next =
-    Listing (written text₀ 0 (linesFrom (length input) (tables places₀ rows₀ marks₀ stores₀) 0 0 input)) input text (tables places rows marks stores) time at next
+    Listing (typed text₀ 0 (linesFrom (length input) (tables places₀ rows₀ marks₀ stores₀) 0 0 input)) input text (tables places rows marks stores) time at next
     × ((length rows ≡ length rows₀) × ((length marks ≡ length marks₀) × ((length stores ≡ length stores₀) × (length text ≡ length text₀))))
 
 abbrev μ-loop : tie.MeasureT-loop

@@ -4,6 +4,7 @@ use native.Mathlib.Omega.{arith}
 use mathlib.Core.Path.{refl, ap, _∙_}
 use denote.Ref.{now}
 use lib.ListN.{length}
+use Rattle.paper.specs.Limits.{finishedMost, marksEach, storeSize}
 use Rattle.laws.specs.Region.{part}
 use Rattle.sample.specs.declared.Place.{Place}
 use Rattle.desk.specs.Desk.{Own, own, turn}
@@ -23,7 +24,7 @@ returns-2 : tie.Need-returns-2
 returns-2 c =
     let a = c .before .before .before .before .before .before .before .before .before .before .before .before .before .before .before .before .before .before .before .before .before .before .before .before .before .args in
     let d = a .desk in
-    let its : Place → Own = λ p. own p (part (16 * d) (16 * d + 16 - 16 * d) (now (a .rows))) (part (2 * d) (2 * d + 2 - 2 * d) (now (a .marks))) (part (16640 * d) (16640 * d + 16640 - 16640 * d) (now (a .stores))) (now (a .out)) in
+    let its : Place → Own = λ p. own p (part (finishedMost * d) (finishedMost * d + finishedMost - finishedMost * d) (now (a .rows))) (part (marksEach * d) (marksEach * d + marksEach - marksEach * d) (now (a .marks))) (part (storeSize * d) (storeSize * d + storeSize - storeSize * d) (now (a .stores))) (now (a .out)) in
     λ e p o. step-through (a .n) (a .len) e p (now (a .rows)) (now (a .marks)) (now (a .stores)) (now (a .out)) (a .desk) (a .time) (now (a .rest)) _ (c .before .before .before .before .before .before .before .before .before .before .before .before .before .before .before .gate-of .ensures) (c .before .before .before .before .before .before .before .before .before .before .before .before .before .enum-told .given .1) (sharesSeen e (a .n) d) refl (turn p _) _ _ _ _
     (c .before .before .before .before .before .before .before .before .pass .ensures p o ∙ received-any (sharesSeen e (a .n) d) (its p) d (a .time) (now (a .rest)) (c .before .before .before .before .before .before .before .before .before .before .before .before .before .before .before .before .before .before .before .before .before .before .before .before .before .pre))
 

@@ -38,6 +38,7 @@ use denote.Triple.Walked.{says, Stays, stay-slice, stay-none, walkOf, Walks, end
 use denote.Exit.{yes}
 use lib.ListN.{replicate}
 use lib.Seq.{sets}
+use Rattle.paper.specs.Limits.{finishedMost, storeSize}
 use Rattle.sample.specs.declared.Place.{Place}
 use Rattle.sample.proofs.Place as P
 use Rattle.table.specs.Table.{cleared}
@@ -137,9 +138,9 @@ module _ {M : Type 1} (𝓤 : URA M) (H : Heap 𝓤) (A : Atoms 𝓤) (W : Given
   goes5 f0 =
       qed W ([]) ∵ nothing ! $ nothing ! $ owned ! usize (Is usize) (uint-makes 𝓤 H A W w64) k _ (refl, f0) $ fjoin ! $ move ! (1 ∷ 0 ∷ []) $ join ! $ frame ! $ done !
 
-  exits : Is N.the-row (startedOf k) ((EL.val N.the-type N′.the-laws (startedOf k)) ∷ []) → length (cleared (reachOf k) places) ≡ length places → length (sets rows 0 (replicate (16 * k) 0)) ≡ length rows → length (sets marks 0 (freshMarks k)) ≡ length marks → length (sets stores 0 (replicate (16640 * k) 0)) ≡ length stores → ent 𝓤 (⋆ 𝓤 H A (‵ (flft κplaces qplaces) ∷ ‵ (flft κrows qrows) ∷ ‵ (flft κmarks qmarks) ∷ ‵ (flft κstores qstores) ∷ ‵ (MutSlice (named 0) κplaces P.the-row .own (Ref bplaces oplaces γplaces (cleared (reachOf k) places)) (slice bplaces oplaces places ∷ [])) ∷ ‵ (MutSlice (named 0) κrows u32 .own (Ref brows orows γrows (sets rows 0 (replicate (16 * k) 0))) (slice brows orows rows ∷ [])) ∷ ‵ (MutSlice (named 0) κmarks u32 .own (Ref bmarks omarks γmarks (sets marks 0 (freshMarks k))) (slice bmarks omarks marks ∷ [])) ∷ ‵ (MutSlice (named 0) κstores u8 .own (Ref bstores ostores γstores (sets stores 0 (replicate (16640 * k) 0))) (slice bstores ostores stores ∷ [])) ∷ [])) (Post (EL.val N.the-type N′.the-laws (startedOf k)))
+  exits : Is N.the-row (startedOf k) ((EL.val N.the-type N′.the-laws (startedOf k)) ∷ []) → length (cleared (reachOf k) places) ≡ length places → length (sets rows 0 (replicate (finishedMost * k) 0)) ≡ length rows → length (sets marks 0 (freshMarks k)) ≡ length marks → length (sets stores 0 (replicate (storeSize * k) 0)) ≡ length stores → ent 𝓤 (⋆ 𝓤 H A (‵ (flft κplaces qplaces) ∷ ‵ (flft κrows qrows) ∷ ‵ (flft κmarks qmarks) ∷ ‵ (flft κstores qstores) ∷ ‵ (MutSlice (named 0) κplaces P.the-row .own (Ref bplaces oplaces γplaces (cleared (reachOf k) places)) (slice bplaces oplaces places ∷ [])) ∷ ‵ (MutSlice (named 0) κrows u32 .own (Ref brows orows γrows (sets rows 0 (replicate (finishedMost * k) 0))) (slice brows orows rows ∷ [])) ∷ ‵ (MutSlice (named 0) κmarks u32 .own (Ref bmarks omarks γmarks (sets marks 0 (freshMarks k))) (slice bmarks omarks marks ∷ [])) ∷ ‵ (MutSlice (named 0) κstores u8 .own (Ref bstores ostores γstores (sets stores 0 (replicate (storeSize * k) 0))) (slice bstores ostores stores ∷ [])) ∷ [])) (Post (EL.val N.the-type N′.the-laws (startedOf k)))
   exits g longplaces longrows longmarks longstores =
-      qed W (‵ (flft κplaces qplaces) ∷ ‵ (flft κrows qrows) ∷ ‵ (flft κmarks qmarks) ∷ ‵ (flft κstores qstores) ∷ ‵ (MutSlice (named 0) κplaces P.the-row .own (Ref bplaces oplaces γplaces (cleared (reachOf k) places)) (slice bplaces oplaces places ∷ [])) ∷ ‵ (MutSlice (named 0) κrows u32 .own (Ref brows orows γrows (sets rows 0 (replicate (16 * k) 0))) (slice brows orows rows ∷ [])) ∷ ‵ (MutSlice (named 0) κmarks u32 .own (Ref bmarks omarks γmarks (sets marks 0 (freshMarks k))) (slice bmarks omarks marks ∷ [])) ∷ ‵ (MutSlice (named 0) κstores u8 .own (Ref bstores ostores γstores (sets stores 0 (replicate (16640 * k) 0))) (slice bstores ostores stores ∷ [])) ∷ []) ∵ suffices ! _ (ends-at 𝓤 H A me.ended stayed (me.clauses 𝓤 H A mem run) W (((κplaces, (κrows, (κmarks, (κstores, tt)))), (qplaces, (qrows, (qmarks, (qstores, tt)))), tt, a, vs), tt) (EL.val N.the-type N′.the-laws (startedOf k)) (startedOf k) (tt, (cleared (reachOf k) places, (sets rows 0 (replicate (16 * k) 0), (sets marks 0 (freshMarks k), (sets stores 0 (replicate (16640 * k) 0), tt))))) (tt, (longplaces, (longrows, (longmarks, (longstores, tt)))))) $ says ! (set-up-is n (lent-tables places rows marks stores)) $ nothing ! $ move ! (4 ∷ 0 ∷ []) $ join ! $ move ! (3 ∷ 0 ∷ []) $ join ! $ move ! (2 ∷ 0 ∷ []) $ join ! $ move ! (1 ∷ 0 ∷ []) $ join ! $ frame ! $ nothing ! $ move ! (4 ∷ 0 ∷ []) $ fjoin ! $ move ! (3 ∷ 0 ∷ []) $ fjoin ! $ move ! (2 ∷ 0 ∷ []) $ fjoin ! $ move ! (1 ∷ 0 ∷ []) $ fjoin ! $ owned ! usize (Is usize) (uint-makes 𝓤 H A W w64) n _ (refl, fitsn) $ fjoin ! $ frame ! $ owned ! N.the-row (Is N.the-row) (EL.makes N.the-type N′.the-plain 𝓤 H A) (startedOf k) _ g $ done !
+      qed W (‵ (flft κplaces qplaces) ∷ ‵ (flft κrows qrows) ∷ ‵ (flft κmarks qmarks) ∷ ‵ (flft κstores qstores) ∷ ‵ (MutSlice (named 0) κplaces P.the-row .own (Ref bplaces oplaces γplaces (cleared (reachOf k) places)) (slice bplaces oplaces places ∷ [])) ∷ ‵ (MutSlice (named 0) κrows u32 .own (Ref brows orows γrows (sets rows 0 (replicate (finishedMost * k) 0))) (slice brows orows rows ∷ [])) ∷ ‵ (MutSlice (named 0) κmarks u32 .own (Ref bmarks omarks γmarks (sets marks 0 (freshMarks k))) (slice bmarks omarks marks ∷ [])) ∷ ‵ (MutSlice (named 0) κstores u8 .own (Ref bstores ostores γstores (sets stores 0 (replicate (storeSize * k) 0))) (slice bstores ostores stores ∷ [])) ∷ []) ∵ suffices ! _ (ends-at 𝓤 H A me.ended stayed (me.clauses 𝓤 H A mem run) W (((κplaces, (κrows, (κmarks, (κstores, tt)))), (qplaces, (qrows, (qmarks, (qstores, tt)))), tt, a, vs), tt) (EL.val N.the-type N′.the-laws (startedOf k)) (startedOf k) (tt, (cleared (reachOf k) places, (sets rows 0 (replicate (finishedMost * k) 0), (sets marks 0 (freshMarks k), (sets stores 0 (replicate (storeSize * k) 0), tt))))) (tt, (longplaces, (longrows, (longmarks, (longstores, tt)))))) $ says ! (set-up-is n (lent-tables places rows marks stores)) $ nothing ! $ move ! (4 ∷ 0 ∷ []) $ join ! $ move ! (3 ∷ 0 ∷ []) $ join ! $ move ! (2 ∷ 0 ∷ []) $ join ! $ move ! (1 ∷ 0 ∷ []) $ join ! $ frame ! $ nothing ! $ move ! (4 ∷ 0 ∷ []) $ fjoin ! $ move ! (3 ∷ 0 ∷ []) $ fjoin ! $ move ! (2 ∷ 0 ∷ []) $ fjoin ! $ move ! (1 ∷ 0 ∷ []) $ fjoin ! $ owned ! usize (Is usize) (uint-makes 𝓤 H A W w64) n _ (refl, fitsn) $ fjoin ! $ frame ! $ owned ! N.the-row (Is N.the-row) (EL.makes N.the-type N′.the-plain 𝓤 H A) (startedOf k) _ g $ done !
 
   module _ (C : Calls 𝓤 H) (Λ : Loops 𝓤 H) (fm : FmC 𝓤 H (W .laws) C) (known-len : KnowsLen 𝓤 H A mem run C) (known-clear′ : Triple 𝓤 (C #clear′) (Clear 𝓤 H A mem run)) (known-reach : KnowsReach 𝓤 H A mem run C) (known-fit′ : Triple 𝓤 (C #fit′) (Fit 𝓤 H A mem run)) (known-make-fresh′ : Triple 𝓤 (C #make-fresh′) (MakeFresh 𝓤 H A mem run)) (known-answer-of′ : Triple 𝓤 (C #answer-of′) (AnswerOf 𝓤 H A mem run)) where
     walk : ent 𝓤 (onEntry 𝓤 H A me.signature (κplaces, (κrows, (κmarks, (κstores, tt)))) (qplaces, (qrows, (qmarks, (qstores, tt)))) a vs) (WpFn 𝓤 H C Λ code.function ((vint w64 n) ∷ slice bplaces oplaces places ∷ slice brows orows rows ∷ slice bmarks omarks marks ∷ slice bstores ostores stores ∷ []) Post)
@@ -185,13 +186,13 @@ module _ {M : Type 1} (𝓤 : URA M) (H : Heap 𝓤) (A : Atoms 𝓤) (W : Given
         move ! (6 ∷ 3 ∷ 0 ∷ 7 ∷ 4 ∷ 1 ∷ []) $ group ! 6 $ use1 W (raw (MakeFresh 𝓤 H A mem run .pre (to4 ν4rows δ4rows ν4marks δ4marks ν4stores δ4stores))) (goes4 ν4rows δ4rows ν4marks δ4marks ν4stores δ4stores (is1 .1)) $
         calls-at ! fm (MakeFresh 𝓤 H A mem run) known-make-fresh′ (to4 ν4rows δ4rows ν4marks δ4marks ν4stores δ4stores) (and-then ! (load ! (from ! (stop !)) (look ! 14 refl)) (and-then ! (load ! (from ! (stop !)) (look ! 10 refl)) (and-then ! (load ! (from ! (stop !)) (look ! 6 refl)) (and-then ! (load ! (from ! (stop !)) (look ! 30 refl)) (no-more !))))) (λ w4.
         use1 W (later (some (λ (r : Unit {0}). ((‵ (flft (ν4rows ∷ []) fullShare) ⊛ (‵ (flft (ν4marks ∷ []) fullShare) ⊛ (‵ (flft (ν4stores ∷ []) fullShare) ⊛ ‵ ftrue))) ⊛ ‵ (unit .own r (w4 ∷ []))) ⊛ raw (ensured 𝓤 H A make-fresh′.ended (make-fresh′.clauses 𝓤 H A mem run) (ν4rows ∷ [], (ν4marks ∷ [], (ν4stores ∷ [], tt))) (Ref brows orows δ4rows rows, (Ref bmarks omarks δ4marks marks, (Ref bstores ostores δ4stores stores, (k, tt)))) tt r)))) (id⊢ 𝓤 _) $ await ! tt $ pick ! (λ r4.
-        split ! $ move ! (1 ∷ []) $ use1 W (some (λ (ls4 : (List ℕ × (List ℕ × (List ℕ × (Unit {0} × Unit {0}))))). ‵ (lasts make-fresh′.ended (ν4rows ∷ [], (ν4marks ∷ [], (ν4stores ∷ [], tt))) (Ref brows orows δ4rows rows, (Ref bmarks omarks δ4marks marks, (Ref bstores ostores δ4stores stores, (k, tt)))) ls4) ⊛ raw (fact 𝓤 ((ls4 .0 ≡ sets rows 0 (replicate (16 * k) 0)) × (ls4 .1 .0 ≡ sets marks 0 (freshMarks k)) × (ls4 .1 .1 .0 ≡ sets stores 0 (replicate (16640 * k) 0)))))) (id⊢ 𝓤 _) $ pick ! (λ ls4.
-        split ! $ move ! (1 ∷ []) $ heard ! ((ls4 .0 ≡ sets rows 0 (replicate (16 * k) 0)) × (ls4 .1 .0 ≡ sets marks 0 (freshMarks k)) × (ls4 .1 .1 .0 ≡ sets stores 0 (replicate (16640 * k) 0))) (λ e4. fsplit ! $ move ! (1 ∷ []) $ fsplit ! $ move ! (1 ∷ []) $ fsplit ! $ move ! (1 ∷ []) $ drop ! $ move ! (3 ∷ []) $ split ! $ move ! (1 ∷ []) $ peeks ! unit (Is unit) (shows 𝓤 H A unit) r4 (w4 ∷ []) (λ is4.
+        split ! $ move ! (1 ∷ []) $ use1 W (some (λ (ls4 : (List ℕ × (List ℕ × (List ℕ × (Unit {0} × Unit {0}))))). ‵ (lasts make-fresh′.ended (ν4rows ∷ [], (ν4marks ∷ [], (ν4stores ∷ [], tt))) (Ref brows orows δ4rows rows, (Ref bmarks omarks δ4marks marks, (Ref bstores ostores δ4stores stores, (k, tt)))) ls4) ⊛ raw (fact 𝓤 ((ls4 .0 ≡ sets rows 0 (replicate (finishedMost * k) 0)) × (ls4 .1 .0 ≡ sets marks 0 (freshMarks k)) × (ls4 .1 .1 .0 ≡ sets stores 0 (replicate (storeSize * k) 0)))))) (id⊢ 𝓤 _) $ pick ! (λ ls4.
+        split ! $ move ! (1 ∷ []) $ heard ! ((ls4 .0 ≡ sets rows 0 (replicate (finishedMost * k) 0)) × (ls4 .1 .0 ≡ sets marks 0 (freshMarks k)) × (ls4 .1 .1 .0 ≡ sets stores 0 (replicate (storeSize * k) 0))) (λ e4. fsplit ! $ move ! (1 ∷ []) $ fsplit ! $ move ! (1 ∷ []) $ fsplit ! $ move ! (1 ∷ []) $ drop ! $ move ! (3 ∷ []) $ split ! $ move ! (1 ∷ []) $ peeks ! unit (Is unit) (shows 𝓤 H A unit) r4 (w4 ∷ []) (λ is4.
         land ! (from ! (stop !)) (store ! 26 refl (nothing-lawful 𝓤 H A W .typed r4 _ is4 .0)) $ drop ! $
         split ! $ move ! (1 ∷ []) $ split ! $ move ! (1 ∷ []) $ split ! $ move ! (1 ∷ []) $ drop ! $
-        move ! (2 ∷ 5 ∷ 8 ∷ []) $ back-mut ! tt u32 κrows ν4rows qrows γrows δ4rows brows orows rows (ls4 .0) (sets rows 0 (replicate (16 * k) 0)) (slice brows orows rows ∷ []) (e4 .0) $
+        move ! (2 ∷ 5 ∷ 8 ∷ []) $ back-mut ! tt u32 κrows ν4rows qrows γrows δ4rows brows orows rows (ls4 .0) (sets rows 0 (replicate (finishedMost * k) 0)) (slice brows orows rows ∷ []) (e4 .0) $
         move ! (3 ∷ 5 ∷ 7 ∷ []) $ back-mut ! tt u32 κmarks ν4marks qmarks γmarks δ4marks bmarks omarks marks (ls4 .1 .0) (sets marks 0 (freshMarks k)) (slice bmarks omarks marks ∷ []) (e4 .1) $
-        move ! (4 ∷ 5 ∷ 6 ∷ []) $ back-mut ! tt u8 κstores ν4stores qstores γstores δ4stores bstores ostores stores (ls4 .1 .1 .0) (sets stores 0 (replicate (16640 * k) 0)) (slice bstores ostores stores ∷ []) (e4 .2) $
+        move ! (4 ∷ 5 ∷ 6 ∷ []) $ back-mut ! tt u8 κstores ν4stores qstores γstores δ4stores bstores ostores stores (ls4 .1 .1 .0) (sets stores 0 (replicate (storeSize * k) 0)) (slice bstores ostores stores ∷ []) (e4 .2) $
         -- `relay::answer_of`
         use0 W (raw (AnswerOf 𝓤 H A mem run .pre (to5))) (goes5 (is1 .1)) $
         calls-said ! fm answer-of′.ended (answer-of′.clauses 𝓤 H A mem run) known-answer-of′ (to5) (λ r. r ≡ startedOf k) (λ r e. id⊢ 𝓤 _) (and-then ! (load ! (from ! (stop !)) (look ! 33 refl)) (no-more !)) (λ w5 r5 e5.
@@ -199,10 +200,10 @@ module _ {M : Type 1} (𝓤 : URA M) (H : Heap 𝓤) (A : Atoms 𝓤) (W : Given
         land ! (from ! (stop !)) (init ! 52 refl (EL.lawful N.the-type N′.the-laws 𝓤 H A W tt .typed (startedOf k) _ is5 .0)) $
         returns ! (look ! 52 refl) $ free-at ! 52 refl refl $ free-at ! 50 refl refl $ free-at ! 48 refl refl $ free-at ! 46 refl refl $ free-at ! 44 refl refl $ free-at ! 42 refl refl $ free-at ! 40 refl refl $ free-at ! 38 refl refl $ free-at ! 36 refl refl $ free-at ! 34 refl refl $ free-at ! 32 refl refl $ free-at ! 30 refl refl $ free-at ! 28 refl refl $ free-at ! 26 refl refl $ free-at ! 24 refl refl $ free-at ! 22 refl refl $ free-at ! 20 refl refl $ free-at ! 18 refl refl $ free-at ! 16 refl refl $ free-at ! 14 refl refl $ free-at ! 12 refl refl $ free-at ! 10 refl refl $ free-at ! 8 refl refl $ free0 ! $
         move ! (6 ∷ []) $ peeks ! (MutSlice (named 0) κplaces P.the-row) (Is (MutSlice (named 0) κplaces P.the-row)) (shows 𝓤 H A (MutSlice (named 0) κplaces P.the-row)) (Ref bplaces oplaces γplaces (cleared (reachOf k) places)) (slice bplaces oplaces places ∷ []) (λ atplaces.
-        move ! (5 ∷ []) $ peeks ! (MutSlice (named 0) κrows u32) (Is (MutSlice (named 0) κrows u32)) (shows 𝓤 H A (MutSlice (named 0) κrows u32)) (Ref brows orows γrows (sets rows 0 (replicate (16 * k) 0))) (slice brows orows rows ∷ []) (λ atrows.
+        move ! (5 ∷ []) $ peeks ! (MutSlice (named 0) κrows u32) (Is (MutSlice (named 0) κrows u32)) (shows 𝓤 H A (MutSlice (named 0) κrows u32)) (Ref brows orows γrows (sets rows 0 (replicate (finishedMost * k) 0))) (slice brows orows rows ∷ []) (λ atrows.
         move ! (4 ∷ []) $ peeks ! (MutSlice (named 0) κmarks u32) (Is (MutSlice (named 0) κmarks u32)) (shows 𝓤 H A (MutSlice (named 0) κmarks u32)) (Ref bmarks omarks γmarks (sets marks 0 (freshMarks k))) (slice bmarks omarks marks ∷ []) (λ atmarks.
-        move ! (3 ∷ []) $ peeks ! (MutSlice (named 0) κstores u8) (Is (MutSlice (named 0) κstores u8)) (shows 𝓤 H A (MutSlice (named 0) κstores u8)) (Ref bstores ostores γstores (sets stores 0 (replicate (16640 * k) 0))) (slice bstores ostores stores ∷ []) (λ atstores.
-        keep ! (7 ∷ 6 ∷ 5 ∷ 4 ∷ 3 ∷ 2 ∷ 1 ∷ 0 ∷ []) $ by ! (exits is5 (kept-long P.the-row κplaces bplaces oplaces γplaces places (cleared (reachOf k) places) roomplaces atplaces) (kept-long u32 κrows brows orows γrows rows (sets rows 0 (replicate (16 * k) 0)) roomrows atrows) (kept-long u32 κmarks bmarks omarks γmarks marks (sets marks 0 (freshMarks k)) roommarks atmarks) (kept-long u8 κstores bstores ostores γstores stores (sets stores 0 (replicate (16640 * k) 0)) roomstores atstores)))))))))))))))))))))))))))))))))))))))))))))))))
+        move ! (3 ∷ []) $ peeks ! (MutSlice (named 0) κstores u8) (Is (MutSlice (named 0) κstores u8)) (shows 𝓤 H A (MutSlice (named 0) κstores u8)) (Ref bstores ostores γstores (sets stores 0 (replicate (storeSize * k) 0))) (slice bstores ostores stores ∷ []) (λ atstores.
+        keep ! (7 ∷ 6 ∷ 5 ∷ 4 ∷ 3 ∷ 2 ∷ 1 ∷ 0 ∷ []) $ by ! (exits is5 (kept-long P.the-row κplaces bplaces oplaces γplaces places (cleared (reachOf k) places) roomplaces atplaces) (kept-long u32 κrows brows orows γrows rows (sets rows 0 (replicate (finishedMost * k) 0)) roomrows atrows) (kept-long u32 κmarks bmarks omarks γmarks marks (sets marks 0 (freshMarks k)) roommarks atmarks) (kept-long u8 κstores bstores ostores γstores stores (sets stores 0 (replicate (storeSize * k) 0)) roomstores atstores)))))))))))))))))))))))))))))))))))))))))))))))))
 
 module _ {M : Type 1} (𝓤 : URA M) (H : Heap 𝓤) (A : Atoms 𝓤) (W : Given 𝓤 H A) (mem : Memory → SProp 𝓤) (run : Routine → Fun 𝓤) where
   walks : (C : Calls 𝓤 H) (Λ : Loops 𝓤 H) → FmC 𝓤 H (W .laws) C → KnowsLen 𝓤 H A mem run C → Triple 𝓤 (C #clear′) (Clear 𝓤 H A mem run) → KnowsReach 𝓤 H A mem run C → Triple 𝓤 (C #fit′) (Fit 𝓤 H A mem run) → Triple 𝓤 (C #make-fresh′) (MakeFresh 𝓤 H A mem run) → Triple 𝓤 (C #answer-of′) (AnswerOf 𝓤 H A mem run) → Walks 𝓤 H A me.ended stayed (WpFn 𝓤 H C Λ code.function) (me.clauses 𝓤 H A mem run)

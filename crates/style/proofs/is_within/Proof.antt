@@ -3,12 +3,12 @@ use borrow.Author.Needs.{needs}
 use native.Mathlib.Omega.{arith}
 use mathlib.Core.Path.{refl, sym}
 use Rattle.laws.specs.Rows.{yes, no, lt, ge}
-use Rattle.style.specs.Store.{within}
+use Rattle.style.specs.Store.{inWindow}
 use Rattle.style.proofs.is_within.Statement.{statement}
 use Rattle.style.proofs.is_within.Tie as tie
 
 pub is-within-spec : {M : Type 1} → statement M
-unfolding within
+unfolding inWindow
 is-within-spec =
     tie.close
     (tie.spec

@@ -3,7 +3,7 @@ use borrow.Author.Needs.{needs}
 use native.Mathlib.Omega.{arith}
 use mathlib.Core.Path.{refl}
 use denote.Ref.{now}
-use Rattle.laws.specs.Rows.{yes, no, lt, ge, told}
+use Rattle.laws.specs.Rows.{yes, no, lt, ge, branched}
 use Rattle.style.specs.Store.{repeated, noted}
 use Rattle.style.specs.Turns.{noted-described}
 use Rattle.style.proofs.note.Statement.{statement}
@@ -14,10 +14,10 @@ returns-5 c =
     let e = c .before .before .before .before .before .before .before .before .before in
     let a = e .before .before .before .before .before .before .before .before .before .before .before .args in
     noted-described (now (a .store)) (a .newest) (a .sidx) (now (a .d))
-    (told _ _ _ (e .before .before .before .before .before .before .before .before .is-improper .ensures) (e .before .before .before .before .before .before .before .if1 .left))
+    (branched _ _ _ (e .before .before .before .before .before .before .before .before .is-improper .ensures) (e .before .before .before .before .before .before .before .if1 .left))
     (e .before .before .before .before .before .before .if2 .left)
-    (told _ (repeated (now (a .store)) (a .newest) (a .sidx) (now (a .d))) _ (e .before .before .before .before .is-repeated .ensures) (e .before .before .before .if3 .left))
-    (told _ _ _ (e .before .is-held .ensures) (e .if4 .left))
+    (branched _ (repeated (now (a .store)) (a .newest) (a .sidx) (now (a .d))) _ (e .before .before .before .before .is-repeated .ensures) (e .before .before .before .if3 .left))
+    (branched _ _ _ (e .before .is-held .ensures) (e .if4 .left))
     _ (c .before .before .before .before .before .before .before .before .newest-of .ensures)
     _ (c .before .before .before .before .before .before .forget .ensures)
     _ (c .before .before .put-description .ensures)
@@ -28,19 +28,19 @@ note-spec =
     tie.close
     (tie.spec
     (λ c κs. search needs)
-    (λ c. yes _ _ (told _ _ _ (c .before .is-improper .ensures) (c .if1 .taken)) refl)
-    (λ c. no _ _ (told _ _ _ (c .before .before .is-improper .ensures) (c .before .if1 .left)) (yes _ _ (lt _ _ (omega arith)) refl))
+    (λ c. yes _ _ (branched _ _ _ (c .before .is-improper .ensures) (c .if1 .taken)) refl)
+    (λ c. no _ _ (branched _ _ _ (c .before .before .is-improper .ensures) (c .before .if1 .left)) (yes _ _ (lt _ _ (omega arith)) refl))
     (λ c κs. search needs)
     (λ c. search needs)
-    (λ c. no _ _ (told _ _ _ (c .before .before .before .before .before .is-improper .ensures) (c .before .before .before .before .if1 .left))
+    (λ c. no _ _ (branched _ _ _ (c .before .before .before .before .before .is-improper .ensures) (c .before .before .before .before .if1 .left))
     (no _ _ (ge _ _ (omega arith))
-    (yes _ _ (told _ _ _ (c .before .is-repeated .ensures) (c .if3 .taken)) refl)))
+    (yes _ _ (branched _ _ _ (c .before .is-repeated .ensures) (c .if3 .taken)) refl)))
     (λ c κs. search needs)
     (λ c. search needs)
-    (λ c. no _ _ (told _ _ _ (c .before .before .before .before .before .before .before .before .is-improper .ensures) (c .before .before .before .before .before .before .before .if1 .left))
+    (λ c. no _ _ (branched _ _ _ (c .before .before .before .before .before .before .before .before .is-improper .ensures) (c .before .before .before .before .before .before .before .if1 .left))
     (no _ _ (ge _ _ (omega arith))
-    (no _ _ (told _ _ _ (c .before .before .before .before .is-repeated .ensures) (c .before .before .before .if3 .left))
-    (yes _ _ (told _ _ _ (c .before .is-held .ensures) (c .if4 .taken)) refl))))
+    (no _ _ (branched _ _ _ (c .before .before .before .before .is-repeated .ensures) (c .before .before .before .if3 .left))
+    (yes _ _ (branched _ _ _ (c .before .is-held .ensures) (c .if4 .taken)) refl))))
     (λ c κs. search needs)
     (λ c κs. search needs)
     (λ c κs. search needs)

@@ -1,0 +1,176 @@
+-- Determined, one line for each public function: two answers, with the memory lent for them, that its promise permits for the same input
+-- are equal. The functions on bytes, text, units, boxes, samples and descriptions, and the writer. Of a part that is returned the bytes
+-- are determined here, and the place is by its lifetime. Assumes nothing.
+use Prim.Native.Nat.{ℕ, _-_, _<_, min}
+use mathlib.Core.Path.{_≡_, refl}
+use mathlib.Core.Bool.{Bool}
+use mathlib.Core.List.{List}
+use lib.ListN.{length, getD, set, drop}
+use lib.Seq.{sets}
+use Rattle.laws.specs.Exactly.{Determines, determined, equation, determined-by-two}
+use Rattle.laws.specs.Region.{part}
+use Rattle.octets.specs.Be.{u8At, u16At, u24At, u32At}
+use Rattle.octets.specs.Same as O
+use Rattle.paper.specs.declared.Refusal.{Refusal}
+use Rattle.paper.specs.declared.Outcome.{Outcome}
+use Rattle.paper.specs.Words.{numberOf, kindOf}
+use Rattle.text.specs.Unicode as T
+use Rattle.unit.specs.declared.Part.{Part}
+use Rattle.unit.specs.declared.Unit as U
+use Rattle.unit.specs.declared.Reading.{Reading}
+use Rattle.unit.specs.Layout.{readOf}
+use Rattle.unit.specs.Head.{headOf}
+use Rattle.boxes.specs.declared.Stepped.{Stepped}
+use Rattle.boxes.specs.Step.{stepOf, contentsOf}
+use Rattle.finished.specs.Times.{late, markedRow, markedUsed}
+use Rattle.joining.specs.Joining.{together, stringOf, sound}
+use Rattle.sample.specs.declared.Place.{Place}
+use Rattle.sample.specs.Place as P
+use Rattle.style.specs.declared.Checked.{Checked}
+use Rattle.style.specs.declared.Noted.{Noted}
+use Rattle.style.specs.Book.{checkOf}
+use Rattle.style.specs.Store.{After, left, noted}
+use Rattle.style.specs.Shown.{shown}
+use Rattle.writer.specs.declared.Written.{Written}
+use Rattle.writer.specs.Write.{caption, written, described}
+use Rattle.writer.specs.Write as W
+
+-- an answer and one lent list
+abbrev pub two : {A : Type 0} → (a : A) (l : List ℕ) → Determines (λ (x : A × List ℕ). (x .0 ≡ a) × (x .1 ≡ l))
+two a l = determined-by-two (λ x. x .0) (λ x. x .1) (λ r m. (r, m)) (λ x. refl) a l
+
+-- ---- paper
+pub paper-number : (r : Refusal) → Determines (λ (n : ℕ). n ≡ numberOf r)
+paper-number r = equation (numberOf r)
+
+pub paper-kind : (o : Outcome) → Determines (λ (k : ℕ). k ≡ kindOf o)
+paper-kind o = equation (kindOf o)
+
+-- ---- octets
+pub octets-byte : (s : List ℕ) (i : ℕ) → Determines (λ (r : ℕ). (r ≡ u8At s i) × (r < 256))
+octets-byte s i = λ x y p q. equation (u8At s i) x y (p .0) (q .0)
+
+pub octets-number16 : (s : List ℕ) (i : ℕ) → Determines (λ (r : ℕ). (r ≡ u16At s i) × (r < 65536))
+octets-number16 s i = λ x y p q. equation (u16At s i) x y (p .0) (q .0)
+
+pub octets-number24 : (s : List ℕ) (i : ℕ) → Determines (λ (r : ℕ). (r ≡ u24At s i) × (r < 16777216))
+octets-number24 s i = λ x y p q. equation (u24At s i) x y (p .0) (q .0)
+
+pub octets-number32 : (s : List ℕ) (i : ℕ) → Determines (λ (r : ℕ). (r ≡ u32At s i) × (r < 4294967296))
+octets-number32 s i = λ x y p q. equation (u32At s i) x y (p .0) (q .0)
+
+pub octets-less : (a b : ℕ) → Determines (λ (r : ℕ). r ≡ a - b)
+octets-less a b = equation (a - b)
+
+pub octets-least : (a b : ℕ) → Determines (λ (r : ℕ). r ≡ min a b)
+octets-least a b = equation (min a b)
+
+pub octets-cut : (s : List ℕ) (a k : ℕ) → Determines (λ (bytes : List ℕ). bytes ≡ part a k s)
+octets-cut s a k = equation (part a k s)
+
+pub octets-put : (dst src : List ℕ) (at : ℕ) → Determines (λ (d : List ℕ). d ≡ sets dst at src)
+octets-put dst src at = equation (sets dst at src)
+
+pub octets-same : (a b : List ℕ) → Determines (λ (r : Bool). r ≡ O.same a b)
+octets-same a b = equation (O.same a b)
+
+pub octets-word : (row : List ℕ) (i : ℕ) → Determines (λ (r : ℕ). r ≡ getD row i 0)
+octets-word row i = equation (getD row i 0)
+
+pub octets-put-word : (row : List ℕ) (i v : ℕ) → Determines (λ (l : List ℕ). l ≡ set row i v)
+octets-put-word row i v = equation (set row i v)
+
+-- ---- text
+pub text-character : (u : ℕ) (s : List ℕ) (at : ℕ) → Determines (λ (r : ℕ). r ≡ T.character u (drop at s))
+text-character u s at = equation (T.character u (drop at s))
+
+pub text-well-formed : (u : ℕ) (s : List ℕ) → Determines (λ (r : Bool). r ≡ T.wellFormed u s)
+text-well-formed u s = equation (T.wellFormed u s)
+
+pub text-boundary : (u : ℕ) (s : List ℕ) (at limit : ℕ) → Determines (λ (r : ℕ). r ≡ T.boundary u s at limit)
+text-boundary u s at limit = equation (T.boundary u s at limit)
+
+-- ---- unit
+pub unit-read : (rest : List ℕ) → Determines (λ (r : Reading). r ≡ readOf rest)
+unit-read rest = equation (readOf rest)
+
+pub unit-put-head : (out : List ℕ) (x : U.Unit)
+    → Determines (λ (r : ℕ × List ℕ). (r .0 ≡ length (headOf x)) × (r .1 ≡ sets out 0 (headOf x)))
+unit-put-head out x = two (length (headOf x)) (sets out 0 (headOf x))
+
+-- ---- boxes
+pub boxes-step : (m : List ℕ) (at : ℕ) → Determines (λ (r : Stepped). r ≡ stepOf m at)
+boxes-step m at = equation (stepOf m at)
+
+pub boxes-contents : (m : List ℕ) (at : ℕ) → Determines (λ (bytes : List ℕ). bytes ≡ contentsOf m at)
+boxes-contents m at = equation (contentsOf m at)
+
+-- ---- finished
+pub finished-is-late : (row : List ℕ) (used time : ℕ) → Determines (λ (r : Bool). r ≡ late row used time)
+finished-is-late row used time = equation (late row used time)
+
+pub finished-mark : (row : List ℕ) (used time : ℕ)
+    → Determines (λ (r : List ℕ × ℕ). (r .0 ≡ markedRow row used time) × (r .1 ≡ markedUsed used))
+finished-mark row used time =
+    determined-by-two (λ x. x .0) (λ x. x .1) (λ l k. (l, k)) (λ x. refl) (markedRow row used time) (markedUsed used)
+
+-- ---- sample
+pub sample-closed : Determines (λ (r : Place). r ≡ P.closed)
+sample-closed = equation P.closed
+
+pub sample-opened : (desk time : ℕ) (x : Part) → Determines (λ (r : Place). r ≡ P.opened desk time x)
+sample-opened desk time x = equation (P.opened desk time x)
+
+pub sample-has : (p : Place) (this : ℕ) → Determines (λ (r : Bool). r ≡ P.has p this)
+sample-has p this = equation (P.has p this)
+
+pub sample-agrees : (p : Place) (x : Part) → Determines (λ (r : Bool). r ≡ P.agrees p x)
+sample-agrees p x = equation (P.agrees p x)
+
+pub sample-repeats : (p : Place) (x : Part) (d : List ℕ) → Determines (λ (r : Bool). r ≡ P.repeats p x d)
+sample-repeats p x d = equation (P.repeats p x d)
+
+pub sample-oversize : (p : Place) (x : Part) (n : ℕ) → Determines (λ (r : Bool). r ≡ P.oversize p x n)
+sample-oversize p x n = equation (P.oversize p x n)
+
+pub sample-keep : (p : Place) (x : Part) (d : List ℕ) → Determines (λ (r : Place). r ≡ P.kept p x d)
+sample-keep p x d = equation (P.kept p x d)
+
+pub sample-missing : (p : Place) → Determines (λ (r : ℕ). r ≡ P.missing p)
+sample-missing p = equation (P.missing p)
+
+pub sample-string-len : (p : Place) → Determines (λ (r : ℕ). r ≡ length (stringOf (P.piecesOf p)))
+sample-string-len p = equation (length (stringOf (P.piecesOf p)))
+
+pub sample-sample-len : (p : Place) → Determines (λ (r : ℕ). r ≡ length (together (P.piecesOf p)))
+sample-sample-len p = equation (length (together (P.piecesOf p)))
+
+pub sample-is-sound : (p : Place) → Determines (λ (r : Bool). r ≡ sound (p .slen) (P.piecesOf p))
+sample-is-sound p = equation (sound (p .slen) (P.piecesOf p))
+
+pub sample-put-together : (p : Place) (out : List ℕ) → Determines (λ (o : List ℕ). o ≡ sets out 0 (together (P.piecesOf p)))
+sample-put-together p out = equation (sets out 0 (together (P.piecesOf p)))
+
+-- ---- style
+pub style-check : (book : List ℕ) → Determines (λ (r : Checked). r ≡ checkOf book)
+style-check book = equation (checkOf book)
+
+pub style-note : (store : List ℕ) (newest sidx : ℕ) (d : List ℕ)
+    → Determines (λ (x : Noted × List ℕ). left (x .0) (x .1) ≡ noted store newest sidx d)
+style-note store newest sidx d =
+    determined (λ x. left (x .0) (x .1)) (λ (a : After). (a .answer, a .store)) (λ x. refl) (noted store newest sidx d)
+
+pub style-show : (book store : List ℕ) (newest index : ℕ) → Determines (λ (bytes : List ℕ). bytes ≡ shown book store newest index)
+style-show book store newest index = equation (shown book store newest index)
+
+-- ---- writer
+pub writer-write-sample : (u sidx sdur : ℕ) (string modifiers : List ℕ) (m number : ℕ) (out : List ℕ)
+    → Determines (λ (x : Written × List ℕ). W.after (x .0) (x .1) ≡ written (caption u sidx sdur string modifiers) m number out)
+writer-write-sample u sidx sdur string modifiers m number out =
+    determined (λ x. W.after (x .0) (x .1)) (λ (a : W.After). (a .answer, a .out)) (λ x. refl)
+    (written (caption u sidx sdur string modifiers) m number out)
+
+pub writer-write-description : (sidx : ℕ) (d : List ℕ) (m number : ℕ) (out : List ℕ)
+    → Determines (λ (x : Written × List ℕ). W.after (x .0) (x .1) ≡ described sidx d m number out)
+writer-write-description sidx d m number out =
+    determined (λ x. W.after (x .0) (x .1)) (λ (a : W.After). (a .answer, a .out)) (λ x. refl) (described sidx d m number out)

@@ -1,0 +1,1 @@
+// No code: each public function's promise determines its answer and the memory lent to it.

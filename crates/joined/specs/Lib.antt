@@ -1,0 +1,4 @@
+pub mod Ledger
+pub mod Tallies
+pub mod Right
+pub mod Joined

@@ -1,0 +1,226 @@
+-- The twelve cases of document 01, 'Worked by hand', as one list, and one statement over it: each holds of the definitions that the
+-- promises of set-up, receive, lookup and the writer cite. Assumes nothing.
+use Prim.Native.Nat.{ℕ}
+use native.Mathlib.Omega.{arith}
+use mathlib.Core.Path.{_≡_, refl, sym, subst}
+use mathlib.Core.Logic.{_⊎_, inl, inr}
+use mathlib.Core.List.{List, [], _∷_, _++_, map, flatten}
+use lib.Count.{ones}
+use lib.ListN.{replicate}
+use lib.Seq.{sets}
+use Rattle.laws.specs.Rows.{_⇒_⁏_, _<?_, _=?_, or-none}
+use Rattle.paper.specs.declared.Refusal.the-variants as R
+use Rattle.paper.specs.declared.Outcome.{Outcome}
+use Rattle.paper.specs.declared.Outcome.the-variants as O
+use Rattle.text.specs.Unicode.{scalar, utf8, encoded, begins, decoded8, decoded, character, wellFormed, wellWithin, reach, reachWithin}
+use Rattle.unit.specs.Layout.{readOf, broken, judged, fieldsOf, least, badPart, badWhole}
+use Rattle.unit.specs.Head.{partHead}
+use Rattle.joining.specs.Joining as J
+use Rattle.sample.specs.Place.{bare, outside, has, agrees, stands, repeats, oversize, toldOf, telling, laid, kept, missing, piecesIn, piecesOf}
+use Rattle.finished.specs.Times.{among, markedRow, markedUsed}
+use Rattle.desk.specs.Desk.{says, facts, laterPart, sampleOf, conflicts, six, usedUp, wholeTaken, completed, joining, received}
+use Rattle.writer.specs.declared.Written.{Written}
+use Rattle.writer.specs.declared.Written.the-variants as W
+use Rattle.writer.specs.Cut.{cuts, cutsWithin, modified, pieces}
+use Rattle.writer.specs.Write.{Caption, caption, long, count, partUnit, payloadData, payloadUnit, unsized, illFormed, unwritable, uncut, after, written}
+use Rattle.relay.specs.Relay.{Tables, standsAt, improper, stranger, short, freshMarks, ready, setUp, ordered, receivedAt}
+use Rattle.good.specs.Good.{ready-exactly}
+use Rattle.good.specs.Fresh.{Exact, exactTables, set-up-exact}
+use Rattle.peace.specs.Run.{Call, receive, Got, answered, run}
+use Rattle.worked.specs.Descriptions.{blankOutput, describes, describes-gets, Case9, describing, then-74, then-75}
+
+-- ---- what a case says
+-- a caption of so many ASCII letters and no modifiers, and the output lent for a payload of it
+abbrev pub letters : ℕ → Caption
+letters many = caption 0 128 1 (replicate many 0x61) []
+
+abbrev pub lentOutput : List ℕ
+lentOutput = replicate 20 0xEE
+
+pub data Case : Type 0 where
+  -- of so many fresh desks, that these calls get this, one after the other
+  plays : (desks : ℕ) → (calls : List Call) → (gets : List Got) → Case
+  -- of so many letters, the limit M and payload number k, that the writer answers this, and leaves this in the output
+  writes : (many M k : ℕ) → Written → (out : List ℕ) → Case
+
+-- what the calls of a run get, one after the other
+abbrev pub gotten : List (ℕ × Got) → List Got
+gotten gs = map (λ (g : ℕ × Got). g .1) gs
+
+abbrev pub Holds : Case → Type 0
+Holds (plays desks calls gets) =
+    (s : Tables) → setUp desks s .answer ≡ ready desks → Exact desks s → gotten (run desks (setUp desks s .tables) calls) ≡ gets
+Holds (writes many M k w out) = written (letters many) M k lentOutput ≡ after w out
+
+abbrev pub All : List Case → Type 0
+All [] = Unit {0}
+All (c ∷ cs) = Holds c × All cs
+
+-- ---- the calls
+abbrev at : (desk time : ℕ) → List ℕ → Call
+at desk time rest = receive desk time rest blankOutput
+
+-- a unit of case 7 at each of these times
+abbrev part1 : List ℕ
+part1 = 0x02 ∷ 0x00 ∷ 0x0B ∷ 0x21 ∷ 0x00 ∷ 0x00 ∷ 0x64 ∷ 0x80 ∷ 0x00 ∷ 0x0E ∷ 0x48 ∷ 0x69 ∷ []
+
+abbrev part2 : List ℕ
+part2 = 0x03 ∷ 0x00 ∷ 0x12 ∷ 0x22 ∷ 0x00 ∷ 0x00 ∷ 0x64 ∷ 0x00 ∷ 0x00 ∷ 0x00 ∷ 0x0C ∷ 0x62 ∷ 0x6C ∷ 0x6E ∷ 0x6B ∷ 0x00 ∷ 0x00 ∷ 0x00 ∷ 0x01 ∷ []
+
+abbrev joined14 : List ℕ
+joined14 = 0x48 ∷ 0x69 ∷ 0x00 ∷ 0x00 ∷ 0x00 ∷ 0x0C ∷ 0x62 ∷ 0x6C ∷ 0x6E ∷ 0x6B ∷ 0x00 ∷ 0x00 ∷ 0x00 ∷ 0x01 ∷ []
+
+abbrev opens : (desk : ℕ) → (times : List ℕ) → List Call
+opens desk times = map (λ (t : ℕ). at desk t part1) times
+
+-- ---- the answers: with the output as it was, or with a sample at its front
+abbrev hears : (used next : ℕ) → Outcome → Got
+hears used next x = answered (says used next x) blankOutput
+
+abbrev handed : (used next : ℕ) → Outcome → List ℕ → Got
+handed used next x bytes = answered (says used next x) (sets blankOutput 0 bytes)
+
+abbrev keeps : (times : List ℕ) → List Got
+keeps times = map (λ (t : ℕ). hears 12 t (O.Kept 1)) times
+
+-- ---- the list
+abbrev case-1 : Case
+case-1 =
+    plays 1 (at 0 1000 (0x01 ∷ 0x00 ∷ 0x0A ∷ 0x80 ∷ 0x01 ∷ 0x5F ∷ 0x90 ∷ 0x00 ∷ 0x02 ∷ 0x48 ∷ 0x69 ∷ []) ∷ [])
+    (handed 11 91000 (O.Whole (facts 1000 0 128 90000 2 2)) (0x48 ∷ 0x69 ∷ []) ∷ [])
+
+abbrev case-2 : Case
+case-2 = plays 1 (at 0 0 (0x01 ∷ 0x00 ∷ 0x08 ∷ 0x80 ∷ 0x00 ∷ 0x00 ∷ 0x01 ∷ 0x00 ∷ 0x00 ∷ []) ∷ []) (hears 9 1 (O.Whole (facts 0 0 128 1 0 0)) ∷ [])
+
+abbrev case-3 : Case
+case-3 = plays 1 (at 0 0 (0x01 ∷ 0x00 ∷ 0x07 ∷ 0x80 ∷ 0x00 ∷ 0x00 ∷ 0x01 ∷ 0x00 ∷ []) ∷ []) (hears 8 0 (O.Refused R.Fields) ∷ [])
+
+abbrev case-4 : Case
+case-4 = plays 1 (at 0 0 (0x01 ∷ 0x00 ∷ 0x01 ∷ []) ∷ []) (hears 3 0 (O.Refused R.Frame) ∷ [])
+
+abbrev case-5 : Case
+case-5 = plays 1 (at 0 0 (0x06 ∷ 0x00 ∷ 0x02 ∷ []) ∷ []) (hears 3 0 (O.Skipped 6) ∷ [])
+
+abbrev case-6 : Case
+case-6 =
+    plays 1 (at 0 4294967295 (0x01 ∷ 0x00 ∷ 0x08 ∷ 0x80 ∷ 0x00 ∷ 0x00 ∷ 0x02 ∷ 0x00 ∷ 0x00 ∷ []) ∷ [])
+    (hears 9 1 (O.Whole (facts 4294967295 0 128 2 0 0)) ∷ [])
+
+-- the part with THIS = TOTAL moves the time by its SDUR
+abbrev case-7-8 : Case
+case-7-8 = plays 1 (at 0 5 part1 ∷ at 0 5 part2 ∷ []) (hears 12 5 (O.Kept 1) ∷ handed 19 105 (O.Joined (facts 5 0 128 100 2 14)) joined14 ∷ [])
+
+abbrev case-8-7 : Case
+case-8-7 = plays 1 (at 0 5 part2 ∷ at 0 5 part1 ∷ []) (hears 19 105 (O.Kept 1) ∷ handed 12 5 (O.Joined (facts 5 0 128 100 2 14)) joined14 ∷ [])
+
+-- newest 10, then 74: newest 74, 10 forgotten. Newest 10, then 75: newest stays, so 10 is held still, and so is 75, the last before it
+abbrev case-9-74 : Case
+case-9-74 = plays 1 (describes 0 74) (describes-gets [])
+
+abbrev case-9-75 : Case
+case-9-75 = plays 1 (describes 0 75) (describes-gets (0x41 ∷ []))
+
+abbrev case-10 : Case
+case-10 =
+    plays 2 (opens 0 (1 ∷ 2 ∷ 3 ∷ 4 ∷ 5 ∷ 6 ∷ 7 ∷ []) ++ opens 1 (1 ∷ 2 ∷ 3 ∷ []))
+    (keeps (1 ∷ 2 ∷ 3 ∷ 4 ∷ 5 ∷ 6 ∷ []) ++ (hears 12 7 (O.Refused R.Six) ∷ keeps (1 ∷ 2 ∷ []) ++ (hears 12 3 (O.Refused R.Common) ∷ [])))
+
+-- eight letters in two parts of four: LEN 13, TOTAL 2 and THIS, SDUR 1, SIDX 128, SLEN 8. The output behind them stays
+abbrev case-11 : (k TOTAL-THIS : ℕ) → Case
+case-11 k TOTAL-THIS =
+    writes 8 14 k (W.Payload 14 2)
+    (0x02 ∷ 0x00 ∷ 0x0D ∷ TOTAL-THIS ∷ 0x00 ∷ 0x00 ∷ 0x01 ∷ 0x80 ∷ 0x00 ∷ 0x08 ∷ replicate 4 0x61 ++ replicate 6 0xEE)
+
+-- and in one TYPE 1
+abbrev case-11-whole : Case
+case-11-whole =
+    writes 8 17 1 (W.Payload 17 1) (0x01 ∷ 0x00 ∷ 0x10 ∷ 0x80 ∷ 0x00 ∷ 0x00 ∷ 0x01 ∷ 0x00 ∷ 0x08 ∷ replicate 8 0x61 ++ replicate 3 0xEE)
+
+abbrev case-12 : Case
+case-12 =
+    writes 60 14 15 (W.Payload 14 15)
+    (0x02 ∷ 0x00 ∷ 0x0D ∷ 0xFF ∷ 0x00 ∷ 0x00 ∷ 0x01 ∷ 0x80 ∷ 0x00 ∷ 0x3C ∷ replicate 4 0x61 ++ replicate 6 0xEE)
+
+abbrev case-12-refused : Case
+case-12-refused = writes 61 14 1 (W.Refused R.Parts) lentOutput
+
+abbrev pub cases : List Case
+cases =
+    case-1 ∷ case-2 ∷ case-3 ∷ case-4 ∷ case-5 ∷ case-6 ∷ case-7-8 ∷ case-8-7
+    ∷ case-9-74 ∷ case-9-75
+    ∷ case-10
+    ∷ case-11 1 0x21 ∷ case-11 2 0x22 ∷ case-11-whole
+    ∷ case-12 ∷ case-12-refused
+    ∷ []
+
+-- ---- what the rules compute to in the memory that set-up makes
+abbrev gets : (desks : ℕ) → List Call → List Got
+gets desks calls = gotten (run desks (exactTables desks) calls)
+
+abbrev Computes : Case → Type 0
+Computes (plays desks calls x) = gets desks calls ≡ x
+Computes (writes many M k w out) = Holds (writes many M k w out)
+
+-- a case holds by computation, or by laws
+so : (c : Case) → Computes c ⊎ Holds c → Holds c
+so c (inr h) = h
+so (plays desks calls x) (inl e) =
+    λ s p q.
+    subst (λ (t : Tables). gotten (run desks t calls) ≡ x)
+    (sym (set-up-exact desks s (or-none _ _ (ready-exactly desks s .0 p) .0) q)) e
+so (writes many M k w out) (inl e) = e
+
+-- cases 1 and 5, which no relay plays that refuses everything or has a constant answer
+one-and-five : Computes case-1 × Computes case-5
+unfolding _⇒_⁏_ _<?_ _=?_ readOf broken judged fieldsOf least badPart badWhole bare outside has agrees stands repeats oversize toldOf telling laid kept missing piecesIn piecesOf among laterPart sampleOf conflicts six usedUp wholeTaken completed joining received standsAt improper stranger short freshMarks ordered receivedAt ones markedRow markedUsed J.laters J.going J.ordered J.sound flatten partHead written count uncut unwritable illFormed unsized wellFormed wellWithin long partUnit payloadData payloadUnit pieces modified cuts cutsWithin reach reachWithin character scalar utf8 encoded begins decoded8 decoded
+one-and-five = (refl, refl)
+
+-- case 9 by laws, for its stores are not computed; `describing` says the same for any memory that is long enough
+case-9-holds : (b : ℕ) (ten : List ℕ) → Case9 b ten → Holds (plays 1 (describes 0 b) (describes-gets ten))
+unfolding _⇒_⁏_ _=?_
+case-9-holds b ten c = λ s p q. describing b ten c 1 0 (omega arith) s p (describes 0 b) refl
+
+abbrev AllHold : List Case → Type 0
+AllHold [] = Unit {0}
+AllHold (c ∷ cs) = (Computes c ⊎ Holds c) × AllHold cs
+
+all-so : (cs : List Case) → AllHold cs → All cs
+all-so [] e = tt
+all-so (c ∷ cs) e = (so c (e .0), all-so cs (e .1))
+
+each-holds : AllHold cases
+unfolding _⇒_⁏_ _<?_ _=?_ readOf broken judged fieldsOf least badPart badWhole bare outside has agrees stands repeats oversize toldOf telling laid kept missing piecesIn piecesOf among laterPart sampleOf conflicts six usedUp wholeTaken completed joining received standsAt improper stranger short freshMarks ordered receivedAt ones markedRow markedUsed J.laters J.going J.ordered J.sound flatten partHead written count uncut unwritable illFormed unsized wellFormed wellWithin long partUnit payloadData payloadUnit pieces modified cuts cutsWithin reach reachWithin character scalar utf8 encoded begins decoded8 decoded
+each-holds = (
+  inl (one-and-five .0),
+  (
+    inl refl,
+    (
+      inl refl,
+      (
+        inl refl,
+        (
+          inl (one-and-five .1),
+          (
+            inl refl,
+            (
+              inl refl,
+              (
+                inl refl,
+                (
+                  inr (case-9-holds 74 [] then-74),
+                  (
+                    inr (case-9-holds 75 (0x41 ∷ []) then-75),
+                    (inl refl, (inl refl, (inl refl, (inl refl, (inl refl, (inl refl, tt)))))),
+                  ),
+                ),
+              ),
+            ),
+          ),
+        ),
+      ),
+    ),
+  ),
+)
+
+pub worked : All cases
+worked = all-so cases each-holds
