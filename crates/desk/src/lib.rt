@@ -17,7 +17,9 @@ ghost use Prim.Native.Nat.{ℕ};
 ghost use lib.ListN.{set};
 ghost use Rattle.finished.specs.Times.{late, markedRow, markedUsed};
 ghost use Rattle.unit.specs.Layout.{readOf};
-ghost use Rattle.desk.specs.Desk.{inUse, own, says, answering, turn, left, isPart, passed, later, laterPart, facts, wholeTaken, sampleOf, conflicts, six, usedUp, completed, joining, partTaken, descriptionTaken, received, freed, givenUp};
+ghost use Rattle.desk.specs.Desk.{inUse, own, says, answering, turn, left, isPart, passed, later, laterPart, facts};
+ghost use Rattle.desk.specs.Desk.{wholeTaken, sampleOf, conflicts, six, usedUp, completed};
+ghost use Rattle.desk.specs.Desk.{joining, partTaken, descriptionTaken, received, freed, givenUp};
 
 // How many samples the desk has open, the common use, and how many desks there are.
 pub struct Shares {
@@ -62,7 +64,8 @@ fn is_late(row: &[u32], marks: &[u32], time: u32) -> bool
 }
 
 fn finish(row: &mut [u32], marks: &mut [u32], time: u32)
-    ensures { λ _. ⌜ (now (row .exit) ≡ markedRow (now (row .entry)) (inUse (now (marks .entry))) time) × (now (marks .exit) ≡ set (now (marks .entry)) 0 (markedUsed (inUse (now (marks .entry))))) ⌝ }
+    ensures { λ _. ⌜ (now (row .exit) ≡ markedRow (now (row .entry)) (inUse (now (marks .entry))) time)
+        × (now (marks .exit) ≡ set (now (marks .entry)) 0 (markedUsed (inUse (now (marks .entry))))) ⌝ }
 {
     let used = finished::mark(row, octets::word(marks, 0) as usize, time);
     octets::put_word(marks, 0, used as u32);
@@ -94,7 +97,10 @@ fn take_whole(
     d: &[u8],
     out: &mut [u8],
 ) -> Answer
-    ensures { λ r. ⌜ ((p : Place) (store : List ℕ) → p .used ≡ is_open → left (turn p r) (now (row .exit)) (now (marks .exit)) store (now (out .exit)) ≡ wholeTaken (own p (now (row .entry)) (now (marks .entry)) store (now (out .entry))) time used w (now (d .entry))) ⌝ }
+    ensures { λ r. ⌜ ((p : Place) (store : List ℕ) → p .used ≡ is_open
+        → left (turn p r) (now (row .exit)) (now (marks .exit)) store (now (out .exit))
+        ≡ wholeTaken (own p (now (row .entry)) (now (marks .entry)) store (now (out .entry))) time used w
+        (now (d .entry))) ⌝ }
 {
     let next = add_time(time, w.sdur);
     if is_late(row, marks, time) {
@@ -181,7 +187,9 @@ fn complete(
     next: u32,
     out: &mut [u8],
 ) -> Turn
-    ensures { λ r. ⌜ ((p : Place) (store : List ℕ) → left r (now (row .exit)) (now (marks .exit)) store (now (out .exit)) ≡ completed (own p (now (row .entry)) (now (marks .entry)) store (now (out .entry))) time used next q) ⌝ }
+    ensures { λ r. ⌜ ((p : Place) (store : List ℕ)
+        → left r (now (row .exit)) (now (marks .exit)) store (now (out .exit))
+        ≡ completed (own p (now (row .entry)) (now (marks .entry)) store (now (out .entry))) time used next q) ⌝ }
 {
     let missing = sample::missing(q);
     if 0 < missing {
@@ -223,7 +231,9 @@ fn join(
     d: &[u8],
     out: &mut [u8],
 ) -> Turn
-    ensures { λ r. ⌜ ((store : List ℕ) → left r (now (row .exit)) (now (marks .exit)) store (now (out .exit)) ≡ joining h (own place (now (row .entry)) (now (marks .entry)) store (now (out .entry))) time used next q x (now (d .entry))) ⌝ }
+    ensures { λ r. ⌜ ((store : List ℕ) → left r (now (row .exit)) (now (marks .exit)) store (now (out .exit))
+        ≡ joining h (own place (now (row .entry)) (now (marks .entry)) store (now (out .entry))) time used next q x
+        (now (d .entry))) ⌝ }
 {
     if is_late(row, marks, time) {
         return said(place, used, next, Outcome::Refused(Refusal::Late));
@@ -258,7 +268,9 @@ fn take_part(
     d: &[u8],
     out: &mut [u8],
 ) -> Turn
-    ensures { λ r. ⌜ ((store : List ℕ) → left r (now (row .exit)) (now (marks .exit)) store (now (out .exit)) ≡ partTaken h (own place (now (row .entry)) (now (marks .entry)) store (now (out .entry))) desk time used x (now (d .entry))) ⌝ }
+    ensures { λ r. ⌜ ((store : List ℕ) → left r (now (row .exit)) (now (marks .exit)) store (now (out .exit))
+        ≡ partTaken h (own place (now (row .entry)) (now (marks .entry)) store (now (out .entry))) desk time used x
+        (now (d .entry))) ⌝ }
 {
     let next = next_time(time, x);
     let q = sample_of(place, desk, time, x);
@@ -274,7 +286,8 @@ fn take_description(
     w: Description,
     d: &[u8],
 ) -> Answer
-    ensures { λ r. ⌜ ((p : Place) (row out : List ℕ) → left (turn p r) row (now (marks .exit)) (now (store .exit)) out ≡ descriptionTaken (own p row (now (marks .entry)) (now (store .entry)) out) time used w (now (d .entry))) ⌝ }
+    ensures { λ r. ⌜ ((p : Place) (row out : List ℕ) → left (turn p r) row (now (marks .exit)) (now (store .exit)) out
+        ≡ descriptionTaken (own p row (now (marks .entry)) (now (store .entry)) out) time used w (now (d .entry))) ⌝ }
 {
     let r = style::note(store, octets::word(marks, 1) as usize, w.sidx, d);
     octets::put_word(marks, 1, (r.newest % 4294967296) as u32);
@@ -304,7 +317,10 @@ pub fn pass(
     rest: &[u8],
     out: &mut [u8],
 ) -> Answer
-    ensures { λ r. ⌜ ((p : Place) → p .used ≡ is_open → left (turn p r) (now (row .exit)) (now (marks .exit)) (now (store .exit)) (now (out .exit)) ≡ passed (own p (now (row .entry)) (now (marks .entry)) (now (store .entry)) (now (out .entry))) time (now (rest .entry))) ⌝ }
+    ensures { λ r. ⌜ ((p : Place) → p .used ≡ is_open
+        → left (turn p r) (now (row .exit)) (now (marks .exit)) (now (store .exit)) (now (out .exit))
+        ≡ passed (own p (now (row .entry)) (now (marks .entry)) (now (store .entry)) (now (out .entry))) time
+        (now (rest .entry))) ⌝ }
 {
     let r = unit::read(rest);
     let used = r.used;
@@ -343,7 +359,9 @@ pub fn receive(
     rest: &[u8],
     out: &mut [u8],
 ) -> Turn
-    ensures { λ r. ⌜ left r (now (row .exit)) (now (marks .exit)) (now (store .exit)) (now (out .exit)) ≡ received h (own place (now (row .entry)) (now (marks .entry)) (now (store .entry)) (now (out .entry))) desk time (now (rest .entry)) ⌝ }
+    ensures { λ r. ⌜ left r (now (row .exit)) (now (marks .exit)) (now (store .exit)) (now (out .exit))
+        ≡ received h (own place (now (row .entry)) (now (marks .entry)) (now (store .entry)) (now (out .entry)))
+        desk time (now (rest .entry)) ⌝ }
 {
     let r = unit::read(rest);
     let used = r.used;
@@ -371,7 +389,8 @@ pub struct Freeing {
 
 // Gives the open sample up: its place is freed and its time marked finished.
 pub fn give_up(place: Place, row: &mut [u32], marks: &mut [u32], time: u32) -> Freeing
-    ensures { λ r. ⌜ ((store out : List ℕ) → freed r (now (row .exit)) (now (marks .exit)) store out ≡ givenUp (own place (now (row .entry)) (now (marks .entry)) store out) time) ⌝ }
+    ensures { λ r. ⌜ ((store out : List ℕ) → freed r (now (row .exit)) (now (marks .exit)) store out
+        ≡ givenUp (own place (now (row .entry)) (now (marks .entry)) store out) time) ⌝ }
 {
     if place.used {
         finish(row, marks, time);

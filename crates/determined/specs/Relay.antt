@@ -53,7 +53,8 @@ pub desk-give-up : (place : Place) (row marks : List ℕ) (time : ℕ)
 desk-give-up place row marks time =
     λ x y a b.
     determined (λ x. freed (x .0) (x .1) (x .2) [] [])
-    (λ (g : Given). (record { place = g .own .place; answer = g .answer }, g .own .row, g .own .marks)) (λ x. refl) (givenUp (own place row marks [] []) time) x y (a [] []) (b [] [])
+    (λ (g : Given). (record { place = g .own .place; answer = g .answer }, g .own .row, g .own .marks)) (λ x. refl)
+    (givenUp (own place row marks [] []) time) x y (a [] []) (b [] [])
 
 -- ---- table
 pub table-len : (t : List Place) → Determines (λ (r : ℕ). r ≡ length t)

@@ -28,7 +28,8 @@ ghost use Rattle.style.specs.Book.{checkOf};
 ghost use Rattle.boxes.specs.Step.{stepOf};
 ghost use Rattle.text.specs.Unicode.{character};
 ghost use Rattle.writer.specs.Write.{caption, written, described};
-ghost use Rattle.export.specs.Export.{answerRow, checkedRow, writtenRow, steppedRow, placeSize, rowMost, served, needed, relayWith, numbered, startedAs, releasedAs, rowed, doneAs, wrote, writtenAs};
+ghost use Rattle.export.specs.Export.{answerRow, checkedRow, writtenRow, steppedRow, placeSize, rowMost, served, needed};
+ghost use Rattle.export.specs.Export.{relayWith, numbered, startedAs, releasedAs, rowed, doneAs, wrote, writtenAs};
 
 // Stores a number in a row; past the end, nothing.
 fn put_at(row: &mut [u64], i: usize, v: usize)
@@ -213,7 +214,8 @@ pub extern "C" fn spindlefig_set_up(
     marks: &mut [u32],
     stores: &mut [u8],
 ) -> usize
-    ensures { λ r. ⌜ numbered (tables (now (places .exit)) (now (rows .exit)) (now (marks .exit)) (now (stores .exit))) r ≡ startedAs (setUp n (tables (now (places .entry)) (now (rows .entry)) (now (marks .entry)) (now (stores .entry)))) ⌝ }
+    ensures { λ r. ⌜ numbered (tables (now (places .exit)) (now (rows .exit)) (now (marks .exit)) (now (stores .exit))) r
+        ≡ startedAs (setUp n (tables (now (places .entry)) (now (rows .entry)) (now (marks .entry)) (now (stores .entry)))) ⌝ }
 {
     let s = relay::set_up(n, places, rows, marks, stores);
     started_number(s)
@@ -233,7 +235,10 @@ pub extern "C" fn spindlefig_receive(
     out: &mut [u8],
     row: &mut [u64],
 ) -> usize
-    ensures { λ r. ⌜ rowed r (tables (now (places .exit)) (now (rows .exit)) (now (marks .exit)) (now (stores .exit))) (now (out .exit)) (now (row .exit)) ≡ doneAs (receivedAt desks (tables (now (places .entry)) (now (rows .entry)) (now (marks .entry)) (now (stores .entry))) desk time (now (rest .entry)) (now (out .entry))) (now (row .entry)) ⌝ }
+    ensures { λ r. ⌜ rowed r (tables (now (places .exit)) (now (rows .exit)) (now (marks .exit)) (now (stores .exit)))
+        (now (out .exit)) (now (row .exit))
+        ≡ doneAs (receivedAt desks (tables (now (places .entry)) (now (rows .entry)) (now (marks .entry)) (now (stores .entry)))
+        desk time (now (rest .entry)) (now (out .entry))) (now (row .entry)) ⌝ }
 {
     let r = relay_of(desks);
     let a = relay::receive(r, places, rows, marks, stores, desk, time, rest, out);
@@ -250,7 +255,9 @@ pub extern "C" fn spindlefig_give_up(
     desk: usize,
     time: u32,
 ) -> usize
-    ensures { λ r. ⌜ ((stores : List ℕ) → numbered (tables (now (places .exit)) (now (rows .exit)) (now (marks .exit)) stores) r ≡ releasedAs (givenUpAt desks (tables (now (places .entry)) (now (rows .entry)) (now (marks .entry)) stores) desk time)) ⌝ }
+    ensures { λ r. ⌜ ((stores : List ℕ)
+        → numbered (tables (now (places .exit)) (now (rows .exit)) (now (marks .exit)) stores) r
+        ≡ releasedAs (givenUpAt desks (tables (now (places .entry)) (now (rows .entry)) (now (marks .entry)) stores) desk time)) ⌝ }
 {
     let r = relay_of(desks);
     let g = relay::give_up(r, places, rows, marks, desk, time);
@@ -268,7 +275,9 @@ pub extern "C" fn spindlefig_lookup<'a>(
     book: &'a [u8],
     out: &mut [u8],
 ) -> usize
-    ensures { λ r. ⌜ (r ≡ length (lookedUp desks (now (marks .entry)) (now (stores .entry)) desk index (now (book .entry)))) × (now (out .exit) ≡ sets (now (out .entry)) 0 (lookedUp desks (now (marks .entry)) (now (stores .entry)) desk index (now (book .entry)))) ⌝ }
+    ensures { λ r. ⌜ (r ≡ length (lookedUp desks (now (marks .entry)) (now (stores .entry)) desk index (now (book .entry))))
+        × (now (out .exit) ≡ sets (now (out .entry)) 0
+        (lookedUp desks (now (marks .entry)) (now (stores .entry)) desk index (now (book .entry)))) ⌝ }
 {
     let d = relay::lookup(Relay { desks }, marks, stores, desk, index, book);
     octets::put(out, 0, d);
@@ -296,7 +305,9 @@ pub extern "C" fn spindlefig_write(
     out: &mut [u8],
     row: &mut [u64],
 )
-    ensures { λ _. ⌜ wrote (now (out .exit)) (now (row .exit)) ≡ writtenAs (written (caption u sidx sdur (now (string .entry)) (now (modifiers .entry))) m k (now (out .entry))) (now (row .entry)) ⌝ }
+    ensures { λ _. ⌜ wrote (now (out .exit)) (now (row .exit))
+        ≡ writtenAs (written (caption u sidx sdur (now (string .entry)) (now (modifiers .entry))) m k (now (out .entry)))
+        (now (row .entry)) ⌝ }
 {
     put_written(
         row,
@@ -314,7 +325,8 @@ pub extern "C" fn spindlefig_describe(
     out: &mut [u8],
     row: &mut [u64],
 )
-    ensures { λ _. ⌜ wrote (now (out .exit)) (now (row .exit)) ≡ writtenAs (described sidx (now (d .entry)) m k (now (out .entry))) (now (row .entry)) ⌝ }
+    ensures { λ _. ⌜ wrote (now (out .exit)) (now (row .exit))
+        ≡ writtenAs (described sidx (now (d .entry)) m k (now (out .entry))) (now (row .entry)) ⌝ }
 {
     put_written(row, writer::write_description(sidx, d, m, k, out));
 }
@@ -322,7 +334,9 @@ pub extern "C" fn spindlefig_describe(
 // What stands at a place of the modifiers. A box's contents are the bytes from its place and 8 on, up to the next place.
 #[no_mangle]
 pub extern "C" fn spindlefig_box(modifiers: &[u8], at: usize, row: &mut [u64])
-    ensures { λ _. ⌜ now (row .exit) ≡ sets (now (row .entry)) 0 (steppedRow (stepOf (now (modifiers .entry)) at .next) (stepOf (now (modifiers .entry)) at .found)) ⌝ }
+    ensures { λ _. ⌜ now (row .exit)
+        ≡ sets (now (row .entry)) 0
+        (steppedRow (stepOf (now (modifiers .entry)) at .next) (stepOf (now (modifiers .entry)) at .found)) ⌝ }
 {
     let s = boxes::step(modifiers, at);
     let found = s.found;

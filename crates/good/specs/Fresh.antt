@@ -91,9 +91,6 @@ exact-long n s p x =
     sym (no _ true p (no _ true (sym (no _ true (ge _ _ (omega (arith, x .places))) (no _ true (ge _ _ (omega (arith, x .rows))) (sym (ge _ _ (omega (arith, x .marks)))))))
     (sym (ge _ _ (omega (arith, x .stores))))))
 
-pub exact-ready : (n : ℕ) (s : Tables) → improper n ≡ false → Exact n s → setUp n s .answer ≡ ready n
-exact-ready n s p x = ready-exactly n s .1 (exact-long n s p x)
-
 pub set-up-exact : (n : ℕ) (s : Tables) → improper n ≡ false → Exact n s → setUp n s .tables ≡ exactTables n
 unfolding setUp short
 set-up-exact n s p x =

@@ -45,7 +45,9 @@ fn relay_of(answer: Started) -> Relay
 
 // A relay for n desks, set up in memory that holds something else.
 pub fn set_up(n: usize) -> Hall
-    ensures { λ r. ⌜ (tablesOf r ≡ setUp n lent .tables) × (r .relay ≡ relayOf (setUp n lent .answer)) × (r .out ≡ replicate sampleMost 0) ⌝ }
+    ensures { λ r. ⌜ (tablesOf r ≡ setUp n lent .tables)
+        × (r .relay ≡ relayOf (setUp n lent .answer))
+        × (r .out ≡ replicate sampleMost 0) ⌝ }
 {
     let places = [sample::closed(); PLACES_MOST];
     let mut rows = [7u32; ROWS_MOST];
@@ -66,7 +68,8 @@ pub fn set_up(n: usize) -> Hall
 
 // One call of a desk.
 pub fn receive(h: Hall, desk: usize, time: u32, rest: &[u8]) -> Heard
-    ensures { λ r. ⌜ (heard r ≡ receivedAt (h .relay .desks) (tablesOf h) desk time (now (rest .entry)) (h .out)) × (r .hall .relay ≡ h .relay) ⌝ }
+    ensures { λ r. ⌜ (heard r ≡ receivedAt (h .relay .desks) (tablesOf h) desk time (now (rest .entry)) (h .out))
+        × (r .hall .relay ≡ h .relay) ⌝ }
 {
     let relay = h.relay;
     let places = h.places;
@@ -102,7 +105,9 @@ pub fn receive(h: Hall, desk: usize, time: u32, rest: &[u8]) -> Heard
 
 // A desk gives its sample of a time up.
 pub fn give_up(h: Hall, desk: usize, time: u32) -> Freed
-    ensures { λ r. ⌜ (freed r ≡ givenUpAt (h .relay .desks) (tablesOf h) desk time) × (r .hall .relay ≡ h .relay) × (r .hall .out ≡ h .out) ⌝ }
+    ensures { λ r. ⌜ (freed r ≡ givenUpAt (h .relay .desks) (tablesOf h) desk time)
+        × (r .hall .relay ≡ h .relay)
+        × (r .hall .out ≡ h .out) ⌝ }
 {
     let relay = h.relay;
     let places = h.places;

@@ -52,7 +52,8 @@ pub fn set_up(
     marks: &mut [u32],
     stores: &mut [u8],
 ) -> Begun
-    ensures { λ r. ⌜ prepared (tables (r .places) (now (rows .exit)) (now (marks .exit)) (now (stores .exit))) (r .answer) ≡ setUp n (tables places (now (rows .entry)) (now (marks .entry)) (now (stores .entry))) ⌝ }
+    ensures { λ r. ⌜ prepared (tables (r .places) (now (rows .exit)) (now (marks .exit)) (now (stores .exit))) (r .answer)
+        ≡ setUp n (tables places (now (rows .entry)) (now (marks .entry)) (now (stores .entry))) ⌝ }
 {
     let mut t = places;
     let answer = relay::set_up(n, &mut t, rows, marks, stores);
@@ -70,7 +71,10 @@ pub fn receive(
     rest: &[u8],
     out: &mut [u8],
 ) -> Called
-    ensures { λ r. ⌜ done (tables (r .places) (now (rows .exit)) (now (marks .exit)) (now (stores .exit))) (now (out .exit)) (r .answer) ≡ receivedAt (relay .desks) (tables places (now (rows .entry)) (now (marks .entry)) (now (stores .entry))) desk time (now (rest .entry)) (now (out .entry)) ⌝ }
+    ensures { λ r. ⌜ done (tables (r .places) (now (rows .exit)) (now (marks .exit)) (now (stores .exit)))
+        (now (out .exit)) (r .answer)
+        ≡ receivedAt (relay .desks) (tables places (now (rows .entry)) (now (marks .entry)) (now (stores .entry)))
+        desk time (now (rest .entry)) (now (out .entry)) ⌝ }
 {
     let mut t = places;
     let answer = relay::receive(relay, &mut t, rows, marks, stores, desk, time, rest, out);
@@ -85,7 +89,9 @@ pub fn give_up(
     desk: usize,
     time: u32,
 ) -> Yielded
-    ensures { λ r. ⌜ ((stores : List ℕ) → released (tables (r .places) (now (rows .exit)) (now (marks .exit)) stores) (r .answer) ≡ givenUpAt (relay .desks) (tables places (now (rows .entry)) (now (marks .entry)) stores) desk time) ⌝ }
+    ensures { λ r. ⌜ ((stores : List ℕ)
+        → released (tables (r .places) (now (rows .exit)) (now (marks .exit)) stores) (r .answer)
+        ≡ givenUpAt (relay .desks) (tables places (now (rows .entry)) (now (marks .entry)) stores) desk time) ⌝ }
 {
     let mut t = places;
     let answer = relay::give_up(relay, &mut t, rows, marks, desk, time);

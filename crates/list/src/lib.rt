@@ -27,7 +27,10 @@ fn list_units(
     text: &mut [u8],
 ) -> usize
     requires { ⌜ (relay .desks ≡ 1) × Good 1 (tables fresh (now rows) (now marks) (now stores)) ⌝ }
-    ensures { λ r. ⌜ page (now (text .exit)) r ≡ typed (now (text .entry)) 0 (linesFrom (length (now (input .entry))) (tables fresh (now (rows .entry)) (now (marks .entry)) (now (stores .entry))) 0 0 (now (input .entry))) ⌝ }
+    ensures { λ r. ⌜ page (now (text .exit)) r
+        ≡ typed (now (text .entry)) 0
+        (linesFrom (length (now (input .entry))) (tables fresh (now (rows .entry)) (now (marks .entry)) (now (stores .entry)))
+        0 0 (now (input .entry))) ⌝ }
 {
     let mut places = fresh;
     let mut time: u32 = 0;

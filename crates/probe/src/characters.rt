@@ -1,5 +1,6 @@
-// Characters: what the finder, the well-formedness test and the boundary say of a table of strings. The stored output is what a decoder
-// that is not ours says of the same bytes: the values at both ends of each form, their ill-formed neighbours, places inside and past the end.
+// Characters: what the finder, the well-formedness test and the boundary say of a table of strings. The stored output is what
+// a decoder that is not ours says of the same bytes: the values at both ends of each form, their ill-formed neighbours, places
+// inside and past the end.
 use crate::print;
 
 // For each string U, a place and a limit (255 is the largest number there is), how many bytes, the bytes.

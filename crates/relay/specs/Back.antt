@@ -116,9 +116,9 @@ reach-all : (n : ℕ) → n ≤ desksMost → reachOf n ≡ places n
 unfolding reachOf
 reach-all n h = sym (no _ _ (ge _ _ h) refl)
 
-pub few-seen : (n desk time : ℕ) (l : List Place) → Bounded (seen desk time (take (reachOf n) l) .opens)
+pub bounded-seen : (n desk time : ℕ) (l : List Place) → Bounded (seen desk time (take (reachOf n) l) .opens)
 unfolding reachOf
-few-seen n desk time l e =
+bounded-seen n desk time l e =
     each (λ (m : ℕ). getD (seen desk time (take m l) .opens) e 0 ≤ places desksMost) _ _ _
     (λ h. omega (arith, opens-le desk time (take 0 l) e, length-take 0 l))
     (λ h. omega (arith, opens-le desk time (take (places n) l) e, length-take (places n) l, ge-of _ _ h))

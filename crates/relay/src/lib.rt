@@ -23,12 +23,14 @@ ghost use Prim.Native.Nat.{ℕ, _*_, _<_, _≤_};
 ghost use lib.ListN.{length, replicate};
 ghost use lib.Seq.{sets};
 ghost use Rattle.paper.specs.Limits.{finishedMost, desksMost, storeSize};
-ghost use Rattle.relay.specs.Relay.{tables, improper, stranger, short, lacks, lacksThree, freshMarks, prepared, setUp, done, receivedAt, released, givenUpAt, lookedUp};
+ghost use Rattle.relay.specs.Relay.{tables, improper, stranger, short, lacks, lacksThree, freshMarks};
+ghost use Rattle.relay.specs.Relay.{prepared, setUp, done, receivedAt, released, givenUpAt, lookedUp};
 ghost use Rattle.paper.specs.declared.Outcome.the-variants.{Refused};
 ghost use Rattle.laws.specs.Rows.{_and_, _<?_};
 ghost use Rattle.unit.specs.Layout.{readOf};
 ghost use Rattle.desk.specs.Desk.{says, answering, turn, isPart};
-ghost use Rattle.relay.specs.Plan.{reachOf, commonSeen, sharesSeen, Bounded, aimOf, gateOf, plan, planned, yield, yielding, fitting, startedOf};
+ghost use Rattle.relay.specs.Plan.{reachOf, commonSeen, sharesSeen, Bounded, aimOf, gateOf};
+ghost use Rattle.relay.specs.Plan.{plan, planned, yield, yielding, fitting, startedOf};
 
 // What set-up hands to each later call: how many desks there are.
 pub struct Relay {
@@ -162,7 +164,8 @@ fn gate_of(
     desk: usize,
     out: &[u8],
 ) -> Gate
-    ensures { λ r. ⌜ r ≡ gateOf n len (length (now (rows .entry))) (length (now (marks .entry))) (length (now (stores .entry))) desk (length (now (out .entry))) ⌝ }
+    ensures { λ r. ⌜ r ≡ gateOf n len (length (now (rows .entry))) (length (now (marks .entry)))
+        (length (now (stores .entry))) desk (length (now (out .entry))) ⌝ }
 {
     if is_stranger(n, desk) {
         return Gate::Shut(Refusal::Desk);
@@ -218,7 +221,9 @@ fn step(
     out: &mut [u8],
 ) -> Turn
     requires { ⌜ Bounded (seen .opens) ⌝ }
-    ensures { λ r. ⌜ plan r (now (rows .exit)) (now (marks .exit)) (now (stores .exit)) (now (out .exit)) ≡ planned n len seen place (now (rows .entry)) (now (marks .entry)) (now (stores .entry)) (now (out .entry)) desk time (now (rest .entry)) ⌝ }
+    ensures { λ r. ⌜ plan r (now (rows .exit)) (now (marks .exit)) (now (stores .exit)) (now (out .exit))
+        ≡ planned n len seen place (now (rows .entry)) (now (marks .entry)) (now (stores .entry)) (now (out .entry))
+        desk time (now (rest .entry)) ⌝ }
 {
     let g = gate_of(n, len, rows, marks, stores, desk, out);
     match g {
@@ -257,7 +262,10 @@ fn pass_step(
     out: &mut [u8],
 ) -> Answer
     requires { ⌜ isPart (readOf (now rest) .unit) ≡ false ⌝ }
-    ensures { λ r. ⌜ ((e : Seen) (p : Place) → p .used ≡ is_open → plan (turn p r) (now (rows .exit)) (now (marks .exit)) (now (stores .exit)) (now (out .exit)) ≡ planned n len e p (now (rows .entry)) (now (marks .entry)) (now (stores .entry)) (now (out .entry)) desk time (now (rest .entry))) ⌝ }
+    ensures { λ r. ⌜ ((e : Seen) (p : Place) → p .used ≡ is_open
+        → plan (turn p r) (now (rows .exit)) (now (marks .exit)) (now (stores .exit)) (now (out .exit))
+        ≡ planned n len e p (now (rows .entry)) (now (marks .entry)) (now (stores .entry)) (now (out .entry))
+        desk time (now (rest .entry))) ⌝ }
 {
     let g = gate_of(n, len, rows, marks, stores, desk, out);
     match g {
@@ -289,7 +297,8 @@ fn yield_step(
     desk: usize,
     time: u32,
 ) -> Freeing
-    ensures { λ r. ⌜ yield r (now (rows .exit)) (now (marks .exit)) ≡ yielding n len place (now (rows .entry)) (now (marks .entry)) desk time ⌝ }
+    ensures { λ r. ⌜ yield r (now (rows .exit)) (now (marks .exit))
+        ≡ yielding n len place (now (rows .entry)) (now (marks .entry)) desk time ⌝ }
 {
     if is_stranger(n, desk) {
         return Freeing {
@@ -388,7 +397,9 @@ fn fresh_marks(marks: &mut [u32], n: usize)
 
 fn make_fresh(rows: &mut [u32], marks: &mut [u32], stores: &mut [u8], n: usize)
     requires { ⌜ n ≤ desksMost ⌝ }
-    ensures { λ _. ⌜ (now (rows .exit) ≡ sets (now (rows .entry)) 0 (replicate (finishedMost * n) 0)) × (now (marks .exit) ≡ sets (now (marks .entry)) 0 (freshMarks n)) × (now (stores .exit) ≡ sets (now (stores .entry)) 0 (replicate (storeSize * n) 0)) ⌝ }
+    ensures { λ _. ⌜ (now (rows .exit) ≡ sets (now (rows .entry)) 0 (replicate (finishedMost * n) 0))
+        × (now (marks .exit) ≡ sets (now (marks .entry)) 0 (freshMarks n))
+        × (now (stores .exit) ≡ sets (now (stores .entry)) 0 (replicate (storeSize * n) 0)) ⌝ }
 {
     zero_words(rows, FINISHED_MOST * n);
     fresh_marks(marks, n);
@@ -412,7 +423,8 @@ pub fn set_up(
     marks: &mut [u32],
     stores: &mut [u8],
 ) -> Started
-    ensures { λ r. ⌜ prepared (tables (now (places .exit)) (now (rows .exit)) (now (marks .exit)) (now (stores .exit))) r ≡ setUp n (tables (now (places .entry)) (now (rows .entry)) (now (marks .entry)) (now (stores .entry))) ⌝ }
+    ensures { λ r. ⌜ prepared (tables (now (places .exit)) (now (rows .exit)) (now (marks .exit)) (now (stores .exit))) r
+        ≡ setUp n (tables (now (places .entry)) (now (rows .entry)) (now (marks .entry)) (now (stores .entry))) ⌝ }
 {
     let len = table::len(places);
     let r = rows.len();
@@ -437,7 +449,10 @@ fn join(
     rest: &[u8],
     out: &mut [u8],
 ) -> Answer
-    ensures { λ r. ⌜ done (tables (now (places .exit)) (now (rows .exit)) (now (marks .exit)) (now (stores .exit))) (now (out .exit)) r ≡ receivedAt (relay .desks) (tables (now (places .entry)) (now (rows .entry)) (now (marks .entry)) (now (stores .entry))) desk time (now (rest .entry)) (now (out .entry)) ⌝ }
+    ensures { λ r. ⌜ done (tables (now (places .exit)) (now (rows .exit)) (now (marks .exit)) (now (stores .exit)))
+        (now (out .exit)) r
+        ≡ receivedAt (relay .desks) (tables (now (places .entry)) (now (rows .entry)) (now (marks .entry)) (now (stores .entry)))
+        desk time (now (rest .entry)) (now (out .entry)) ⌝ }
 {
     let n = relay.desks;
     let len = table::len(places);
@@ -477,7 +492,10 @@ fn pass(
     out: &mut [u8],
 ) -> Answer
     requires { ⌜ isPart (readOf (now rest) .unit) ≡ false ⌝ }
-    ensures { λ r. ⌜ done (tables (now (places .exit)) (now (rows .exit)) (now (marks .exit)) (now (stores .exit))) (now (out .exit)) r ≡ receivedAt (relay .desks) (tables (now (places .entry)) (now (rows .entry)) (now (marks .entry)) (now (stores .entry))) desk time (now (rest .entry)) (now (out .entry)) ⌝ }
+    ensures { λ r. ⌜ done (tables (now (places .exit)) (now (rows .exit)) (now (marks .exit)) (now (stores .exit)))
+        (now (out .exit)) r
+        ≡ receivedAt (relay .desks) (tables (now (places .entry)) (now (rows .entry)) (now (marks .entry)) (now (stores .entry)))
+        desk time (now (rest .entry)) (now (out .entry)) ⌝ }
 {
     let n = relay.desks;
     let len = table::len(places);
@@ -499,7 +517,10 @@ pub fn receive(
     rest: &[u8],
     out: &mut [u8],
 ) -> Answer
-    ensures { λ r. ⌜ done (tables (now (places .exit)) (now (rows .exit)) (now (marks .exit)) (now (stores .exit))) (now (out .exit)) r ≡ receivedAt (relay .desks) (tables (now (places .entry)) (now (rows .entry)) (now (marks .entry)) (now (stores .entry))) desk time (now (rest .entry)) (now (out .entry)) ⌝ }
+    ensures { λ r. ⌜ done (tables (now (places .exit)) (now (rows .exit)) (now (marks .exit)) (now (stores .exit)))
+        (now (out .exit)) r
+        ≡ receivedAt (relay .desks) (tables (now (places .entry)) (now (rows .entry)) (now (marks .entry)) (now (stores .entry)))
+        desk time (now (rest .entry)) (now (out .entry)) ⌝ }
 {
     if desk::is_part(rest) {
         join(relay, places, rows, marks, stores, desk, time, rest, out)
@@ -517,7 +538,10 @@ pub fn give_up(
     desk: usize,
     time: u32,
 ) -> GivenUp
-    ensures { λ r. ⌜ ((stores : List ℕ) → released (tables (now (places .exit)) (now (rows .exit)) (now (marks .exit)) stores) r ≡ givenUpAt (relay .desks) (tables (now (places .entry)) (now (rows .entry)) (now (marks .entry)) stores) desk time) ⌝ }
+    ensures { λ r. ⌜ ((stores : List ℕ)
+        → released (tables (now (places .exit)) (now (rows .exit)) (now (marks .exit)) stores) r
+        ≡ givenUpAt (relay .desks) (tables (now (places .entry)) (now (rows .entry)) (now (marks .entry)) stores)
+        desk time) ⌝ }
 {
     let n = relay.desks;
     let len = table::len(places);

@@ -12,7 +12,8 @@ ghost use lib.Seq.{sets};
 ghost use Rattle.paper.specs.Limits.{recordSize};
 ghost use Rattle.style.specs.Record.{recordAt, indexOf, descriptionOf, recordOf, filled};
 ghost use Rattle.style.specs.Book.{broken, falling, badRecord, countOf, checkOf, entryFrom, entryOf};
-ghost use Rattle.style.specs.Store.{minus, inWindow, moved, carries, held, inStore, stays, forgottenAt, forgotten, stored, repeated, improper, left, noted};
+ghost use Rattle.style.specs.Store.{minus, inWindow, moved, carries, held, inStore, stays};
+ghost use Rattle.style.specs.Store.{forgottenAt, forgotten, stored, repeated, improper, left, noted};
 ghost use Rattle.style.specs.Shown.{shown};
 
 // How many records a good book has; or the refusal, and the number of the first bad record, from 0.

@@ -5,7 +5,8 @@ use paper::limits::RESERVED;
 ghost use mathlib.Core.Path.{_≡_};
 ghost use lib.ListN.{length};
 ghost use lib.Seq.{sets};
-ghost use Rattle.unit.specs.Layout.{wholeAt, stringAt, modifiersAt, descriptionAt, fieldsOf, least, badWhole, badPart, badDescription, badFields, broken, judged, readOf};
+ghost use Rattle.unit.specs.Layout.{wholeAt, stringAt, modifiersAt, descriptionAt, fieldsOf, least};
+ghost use Rattle.unit.specs.Layout.{badWhole, badPart, badDescription, badFields, broken, judged, readOf};
 ghost use Rattle.unit.specs.Head.{wholeHead, stringHead, modifiersHead, partHead, descriptionHead, headOf};
 
 // TYPE 1. `start` and `len` say where its data, the sample, stands in the rest.

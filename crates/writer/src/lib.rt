@@ -27,7 +27,8 @@ ghost use Rattle.unit.specs.declared.Unit.the-variants.{Part as PartUnit};
 ghost use Rattle.writer.specs.Cut.{strings};
 ghost use Rattle.writer.specs.Find.{found, turned, sought};
 ghost use Rattle.writer.specs.Returns.{Writable, PutDown, blockType};
-ghost use Rattle.writer.specs.Write.{caption, long, unsized, illFormed, unwritable, wholeUnit, undescribed, after, written, described};
+ghost use Rattle.writer.specs.Write.{caption, long, unsized, illFormed, unwritable};
+ghost use Rattle.writer.specs.Write.{wholeUnit, undescribed, after, written, described};
 
 // A payload's length and how many payloads there are; or the refusal.
 pub enum Written {
@@ -153,7 +154,9 @@ fn write_whole(
     out: &mut [u8],
 ) -> usize
     requires { ⌜ length (now string) + length (now modifiers) ≤ sampleMost ⌝ }
-    ensures { λ r. ⌜ PutDown r (now (out .exit)) (now (out .entry)) (wholeUnit (caption u sidx sdur (now (string .entry)) (now (modifiers .entry)))) (now (string .entry) ++ now (modifiers .entry)) ⌝ }
+    ensures { λ r. ⌜ PutDown r (now (out .exit)) (now (out .entry))
+        (wholeUnit (caption u sidx sdur (now (string .entry)) (now (modifiers .entry))))
+        (now (string .entry) ++ now (modifiers .entry)) ⌝ }
 {
     let x = Unit::Whole(Whole {
         u,
@@ -178,7 +181,8 @@ fn write_string(
     d: &[u8],
     out: &mut [u8],
 ) -> usize
-    ensures { λ r. ⌜ PutDown r (now (out .exit)) (now (out .entry)) (PartUnit (stringPart u total this sdur sidx slen (length (now (d .entry))))) (now (d .entry)) ⌝ }
+    ensures { λ r. ⌜ PutDown r (now (out .exit)) (now (out .entry))
+        (PartUnit (stringPart u total this sdur sidx slen (length (now (d .entry))))) (now (d .entry)) ⌝ }
 {
     let x = Unit::Part(Part {
         kind: 2,
@@ -202,7 +206,8 @@ fn write_block(
     d: &[u8],
     out: &mut [u8],
 ) -> usize
-    ensures { λ r. ⌜ PutDown r (now (out .exit)) (now (out .entry)) (PartUnit (modifiersPart kind total this sdur (length (now (d .entry))))) (now (d .entry)) ⌝ }
+    ensures { λ r. ⌜ PutDown r (now (out .exit)) (now (out .entry))
+        (PartUnit (modifiersPart kind total this sdur (length (now (d .entry))))) (now (d .entry)) ⌝ }
 {
     let x = Unit::Part(Part {
         kind,
@@ -257,7 +262,8 @@ fn write_cut(
     requires { ⌜ unwritable (caption u sidx sdur (now string) (now modifiers)) m (length (now out)) ≡ false ⌝ }
     requires { ⌜ Writable (caption u sidx sdur (now string) (now modifiers)) m (length (now out)) ⌝ }
     requires { ⌜ long (caption u sidx sdur (now string) (now modifiers)) m ≡ true ⌝ }
-    ensures { λ r. ⌜ after r (now (out .exit)) ≡ written (caption u sidx sdur (now (string .entry)) (now (modifiers .entry))) m number (now (out .entry)) ⌝ }
+    ensures { λ r. ⌜ after r (now (out .exit))
+        ≡ written (caption u sidx sdur (now (string .entry)) (now (modifiers .entry))) m number (now (out .entry)) ⌝ }
 {
     if string.len() == 0 {
         return Written::Refused(Refusal::Parts);
@@ -296,7 +302,8 @@ pub fn write_sample(
     number: usize,
     out: &mut [u8],
 ) -> Written
-    ensures { λ r. ⌜ after r (now (out .exit)) ≡ written (caption u sidx sdur (now (string .entry)) (now (modifiers .entry))) m number (now (out .entry)) ⌝ }
+    ensures { λ r. ⌜ after r (now (out .exit))
+        ≡ written (caption u sidx sdur (now (string .entry)) (now (modifiers .entry))) m number (now (out .entry)) ⌝ }
 {
     if is_unwritable(u, sidx, sdur, string, modifiers, m, out.len()) {
         return Written::Refused(Refusal::Writer);

@@ -56,7 +56,7 @@ use Rattle.desk.proofs.Turn as D
 use Rattle.desk.proofs.Turn.Laws as D′
 use Rattle.relay.specs.Relay.{tables as lent-tables}
 use Rattle.relay.specs.Plan.{reachOf, aimOf, Plan, plan, planned}
-use Rattle.relay.specs.Back.{few-seen, received-is}
+use Rattle.relay.specs.Back.{bounded-seen, received-is}
 use Rattle.relay.proofs.step as step′
 use Rattle.relay.proofs.step.Symbol as step′-def
 use Rattle.relay.proofs.step.Symbol.{name as #step′}
@@ -106,7 +106,7 @@ module _ {M : Type 1} (𝓤 : URA M) (H : Heap 𝓤) (A : Atoms 𝓤) (W : Given
 
   goes4 : (ν4rows : ℕ) (δ4rows : GName) (ν4marks : ℕ) (δ4marks : GName) (ν4stores : ℕ) (δ4stores : GName) (ν4out : ℕ) (δ4out : GName) (f0 : relay .desks < 2 ^ 64) (f1 : length places < 2 ^ 64) (f2 : Is S.the-row see ((LL.val S.the-type S′.the-laws see) ∷ [])) (f3 : Is P.the-row old ((LL.val P.the-type P′.the-laws old) ∷ [])) (f4 : desk < 2 ^ 64) (f5 : time < 2 ^ 32) → ent 𝓤 (⋆ 𝓤 H A (‵ (flft (ν4rows ∷ []) fullShare) ∷ ‵ (flft (ν4marks ∷ []) fullShare) ∷ ‵ (flft (ν4stores ∷ []) fullShare) ∷ ‵ (flft κrest qrest) ∷ ‵ (flft (ν4out ∷ []) fullShare) ∷ ‵ (MutSlice (named 0) (ν4rows ∷ []) u32 .own (Ref brows orows δ4rows rows) (slice brows orows rows ∷ [])) ∷ ‵ (MutSlice (named 0) (ν4marks ∷ []) u32 .own (Ref bmarks omarks δ4marks marks) (slice bmarks omarks marks ∷ [])) ∷ ‵ (MutSlice (named 0) (ν4stores ∷ []) u8 .own (Ref bstores ostores δ4stores stores) (slice bstores ostores stores ∷ [])) ∷ ‵ (ShrSlice (named 0) κrest u8 .own (Ref brest orest γrest rest) (slice brest orest rest ∷ [])) ∷ ‵ (MutSlice (named 0) (ν4out ∷ []) u8 .own (Ref bout oout δ4out out) (slice bout oout out ∷ [])) ∷ [])) (Step 𝓤 H A mem run .pre (to4 ν4rows δ4rows ν4marks δ4marks ν4stores δ4stores ν4out δ4out))
   goes4 ν4rows δ4rows ν4marks δ4marks ν4stores δ4stores ν4out δ4out f0 f1 f2 f3 f4 f5 =
-      qed W (‵ (flft (ν4rows ∷ []) fullShare) ∷ ‵ (flft (ν4marks ∷ []) fullShare) ∷ ‵ (flft (ν4stores ∷ []) fullShare) ∷ ‵ (flft κrest qrest) ∷ ‵ (flft (ν4out ∷ []) fullShare) ∷ ‵ (MutSlice (named 0) (ν4rows ∷ []) u32 .own (Ref brows orows δ4rows rows) (slice brows orows rows ∷ [])) ∷ ‵ (MutSlice (named 0) (ν4marks ∷ []) u32 .own (Ref bmarks omarks δ4marks marks) (slice bmarks omarks marks ∷ [])) ∷ ‵ (MutSlice (named 0) (ν4stores ∷ []) u8 .own (Ref bstores ostores δ4stores stores) (slice bstores ostores stores ∷ [])) ∷ ‵ (ShrSlice (named 0) κrest u8 .own (Ref brest orest γrest rest) (slice brest orest rest ∷ [])) ∷ ‵ (MutSlice (named 0) (ν4out ∷ []) u8 .own (Ref bout oout δ4out out) (slice bout oout out ∷ [])) ∷ []) ∵ says ! (few-seen (relay .desks) desk time places) $ nothing ! $ move ! (5 ∷ 0 ∷ []) $ join ! $ move ! (4 ∷ 0 ∷ []) $ join ! $ move ! (3 ∷ 0 ∷ []) $ join ! $ move ! (2 ∷ 0 ∷ []) $ join ! $ move ! (1 ∷ 0 ∷ []) $ join ! $ frame ! $ nothing ! $ move ! (5 ∷ 0 ∷ []) $ fjoin ! $ move ! (4 ∷ 0 ∷ []) $ fjoin ! $ owned ! u32 (Is u32) (uint-makes 𝓤 H A W w32) time _ (refl, f5) $ fjoin ! $ owned ! usize (Is usize) (uint-makes 𝓤 H A W w64) desk _ (refl, f4) $ fjoin ! $ move ! (3 ∷ 0 ∷ []) $ fjoin ! $ move ! (2 ∷ 0 ∷ []) $ fjoin ! $ move ! (1 ∷ 0 ∷ []) $ fjoin ! $ owned ! P.the-row (Is P.the-row) (LL.makes P.the-type P′.the-plain 𝓤 H A) old _ f3 $ fjoin ! $ owned ! S.the-row (Is S.the-row) (LL.makes S.the-type S′.the-plain 𝓤 H A) see _ f2 $ fjoin ! $ owned ! usize (Is usize) (uint-makes 𝓤 H A W w64) (length places) _ (refl, f1) $ fjoin ! $ owned ! usize (Is usize) (uint-makes 𝓤 H A W w64) (relay .desks) _ (refl, f0) $ fjoin ! $ done !
+      qed W (‵ (flft (ν4rows ∷ []) fullShare) ∷ ‵ (flft (ν4marks ∷ []) fullShare) ∷ ‵ (flft (ν4stores ∷ []) fullShare) ∷ ‵ (flft κrest qrest) ∷ ‵ (flft (ν4out ∷ []) fullShare) ∷ ‵ (MutSlice (named 0) (ν4rows ∷ []) u32 .own (Ref brows orows δ4rows rows) (slice brows orows rows ∷ [])) ∷ ‵ (MutSlice (named 0) (ν4marks ∷ []) u32 .own (Ref bmarks omarks δ4marks marks) (slice bmarks omarks marks ∷ [])) ∷ ‵ (MutSlice (named 0) (ν4stores ∷ []) u8 .own (Ref bstores ostores δ4stores stores) (slice bstores ostores stores ∷ [])) ∷ ‵ (ShrSlice (named 0) κrest u8 .own (Ref brest orest γrest rest) (slice brest orest rest ∷ [])) ∷ ‵ (MutSlice (named 0) (ν4out ∷ []) u8 .own (Ref bout oout δ4out out) (slice bout oout out ∷ [])) ∷ []) ∵ says ! (bounded-seen (relay .desks) desk time places) $ nothing ! $ move ! (5 ∷ 0 ∷ []) $ join ! $ move ! (4 ∷ 0 ∷ []) $ join ! $ move ! (3 ∷ 0 ∷ []) $ join ! $ move ! (2 ∷ 0 ∷ []) $ join ! $ move ! (1 ∷ 0 ∷ []) $ join ! $ frame ! $ nothing ! $ move ! (5 ∷ 0 ∷ []) $ fjoin ! $ move ! (4 ∷ 0 ∷ []) $ fjoin ! $ owned ! u32 (Is u32) (uint-makes 𝓤 H A W w32) time _ (refl, f5) $ fjoin ! $ owned ! usize (Is usize) (uint-makes 𝓤 H A W w64) desk _ (refl, f4) $ fjoin ! $ move ! (3 ∷ 0 ∷ []) $ fjoin ! $ move ! (2 ∷ 0 ∷ []) $ fjoin ! $ move ! (1 ∷ 0 ∷ []) $ fjoin ! $ owned ! P.the-row (Is P.the-row) (LL.makes P.the-type P′.the-plain 𝓤 H A) old _ f3 $ fjoin ! $ owned ! S.the-row (Is S.the-row) (LL.makes S.the-type S′.the-plain 𝓤 H A) see _ f2 $ fjoin ! $ owned ! usize (Is usize) (uint-makes 𝓤 H A W w64) (length places) _ (refl, f1) $ fjoin ! $ owned ! usize (Is usize) (uint-makes 𝓤 H A W w64) (relay .desks) _ (refl, f0) $ fjoin ! $ done !
 
   exits : Is N.the-row ((left .turn) .answer) ((LL.val N.the-type N′.the-laws ((left .turn) .answer)) ∷ []) → length (stored m (aimOf see m (left .turn .place)) (left .turn .place) places) ≡ length places → length (left .rows) ≡ length rows → length (left .marks) ≡ length marks → length (left .stores) ≡ length stores → length (left .out) ≡ length out → ent 𝓤 (⋆ 𝓤 H A (‵ (flft κplaces qplaces) ∷ ‵ (flft κrows qrows) ∷ ‵ (flft κmarks qmarks) ∷ ‵ (flft κstores qstores) ∷ ‵ (flft κrest qrest) ∷ ‵ (flft κout qout) ∷ ‵ (MutSlice (named 0) κplaces P.the-row .own (Ref bplaces oplaces γplaces (stored m (aimOf see m (left .turn .place)) (left .turn .place) places)) (slice bplaces oplaces places ∷ [])) ∷ ‵ (MutSlice (named 0) κrows u32 .own (Ref brows orows γrows (left .rows)) (slice brows orows rows ∷ [])) ∷ ‵ (MutSlice (named 0) κmarks u32 .own (Ref bmarks omarks γmarks (left .marks)) (slice bmarks omarks marks ∷ [])) ∷ ‵ (MutSlice (named 0) κstores u8 .own (Ref bstores ostores γstores (left .stores)) (slice bstores ostores stores ∷ [])) ∷ ‵ (ShrSlice (named 0) κrest u8 .own (Ref brest orest γrest rest) (slice brest orest rest ∷ [])) ∷ ‵ (MutSlice (named 0) κout u8 .own (Ref bout oout γout (left .out)) (slice bout oout out ∷ [])) ∷ [])) (Post (LL.val N.the-type N′.the-laws ((left .turn) .answer)))
   exits g longplaces longrows longmarks longstores longout =
