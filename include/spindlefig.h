@@ -7,6 +7,10 @@
  * is 0, and slices of one call do not overlap. Places are cleared to zeros before set-up and then left to the relay. This is C's share;
  * beyond it nothing has to be checked beforehand: what is wrong is refused by its number, 1 to 16, and a row that is too short gets
  * what fits. What each call answers and leaves is proved in crates/export, for every input.
+ *
+ * Set-up keeps the number of desks in the memory itself, at the front of the marks: marks[0] is n, marks[1] and marks[2] are 0. Every
+ * later call reads it there. Where another number than 1 to 8 stands there, or what is lent is too short for it, the call is refused
+ * by 1 and leaves the memory as it stood.
  */
 #ifndef SPINDLEFIG_H
 #define SPINDLEFIG_H
@@ -26,7 +30,7 @@ typedef struct {
 /* ---- What n desks need, in elements; 0 where n is not 1 to 8. ---- */
 size_t spindlefig_places(size_t n); /* places */
 size_t spindlefig_rows(size_t n);   /* finished times */
-size_t spindlefig_marks(size_t n);  /* marks */
+size_t spindlefig_marks(size_t n);  /* marks: a head of 3, and 2 a desk */
 size_t spindlefig_stores(size_t n); /* bytes of descriptions */
 
 size_t spindlefig_place_size(void); /* the bytes of a place: sizeof(spindlefig_place) */
@@ -62,8 +66,7 @@ size_t spindlefig_set_up(size_t n,
 /* Takes the unit at the front of the rest. The row gets: bytes used, next running time, kind, and the numbers of the kind.
  * Answers the bytes used: hand `next` back as the time, and go on so many bytes further, until no bytes are used. That is at the end of
  * the payload, and for refusals 1 and 2, which no later call of the same payload would escape. */
-size_t spindlefig_receive(size_t desks,
-                          spindlefig_place *places, size_t places_len,
+size_t spindlefig_receive(spindlefig_place *places, size_t places_len,
                           uint32_t *rows, size_t rows_len,
                           uint32_t *marks, size_t marks_len,
                           uint8_t *stores, size_t stores_len,
@@ -73,15 +76,13 @@ size_t spindlefig_receive(size_t desks,
                           uint64_t *row, size_t row_len);
 
 /* Frees an open sample and marks its time finished. Answers 0, or 1 or 11. */
-size_t spindlefig_give_up(size_t desks,
-                          spindlefig_place *places, size_t places_len,
+size_t spindlefig_give_up(spindlefig_place *places, size_t places_len,
                           uint32_t *rows, size_t rows_len,
                           uint32_t *marks, size_t marks_len,
                           size_t desk, uint32_t time);
 
 /* Writes the description that an index shows to the front of the output (256 bytes hold any) and answers its length; 0: none. */
-size_t spindlefig_lookup(size_t desks,
-                         const uint32_t *marks, size_t marks_len,
+size_t spindlefig_lookup(const uint32_t *marks, size_t marks_len,
                          const uint8_t *stores, size_t stores_len,
                          size_t desk, size_t index,
                          const uint8_t *book, size_t book_len,

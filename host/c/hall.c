@@ -60,7 +60,7 @@ static void close_hall(hall *h) {
 }
 
 static void receive(hall *h, size_t desk, uint32_t time, const uint8_t *rest, size_t len) {
-    size_t used = spindlefig_receive(DESKS, h->places, spindlefig_places(DESKS), h->rows, spindlefig_rows(DESKS), h->marks,
+    size_t used = spindlefig_receive(h->places, spindlefig_places(DESKS), h->rows, spindlefig_rows(DESKS), h->marks,
                                      spindlefig_marks(DESKS), h->stores, spindlefig_stores(DESKS), desk, time, rest, len,
                                      h->out, sizeof h->out, h->row, 9);
     need(used == h->row[0], "the row tells other bytes used");
@@ -73,12 +73,23 @@ static void receive(hall *h, size_t desk, uint32_t time, const uint8_t *rest, si
     printf("\n");
 }
 
+/* The hall knows its number of desks by the front of the marks: another number there is refused by 1, and changes nothing else. */
+static void refuse_head(hall *h, uint32_t other, const uint8_t *rest, size_t len) {
+    uint32_t n = h->marks[0];
+    need(n == DESKS && h->marks[1] == 0 && h->marks[2] == 0, "set-up left another head");
+    h->marks[0] = other;
+    printf("with %u at the front of the marks: ", other);
+    receive(h, 0, 2000, rest, len);
+    need(h->marks[0] == other, "the head is changed");
+    h->marks[0] = n;
+}
+
 /* Goes through a payload with so much room for the answers, until no bytes are used, as every caller does. */
 static void go_through(hall *h, size_t desk, const uint8_t *rest, size_t len, size_t room) {
     uint32_t time = 0;
     size_t calls = 0, used;
     do {
-        used = spindlefig_receive(DESKS, h->places, spindlefig_places(DESKS), h->rows, spindlefig_rows(DESKS), h->marks,
+        used = spindlefig_receive(h->places, spindlefig_places(DESKS), h->rows, spindlefig_rows(DESKS), h->marks,
                                   spindlefig_marks(DESKS), h->stores, spindlefig_stores(DESKS), desk, time, rest, len,
                                   h->out, room, h->row, 9);
         rest += used;
@@ -111,7 +122,7 @@ static void play_style(hall *h, size_t desk, const char *style) {
     spindlefig_describe(7, (const uint8_t *)style, strlen(style), LIMIT, 1, payload, LIMIT, h->row, 9);
     need(h->row[0] == 0, "the description is refused");
     receive(h, desk, 0, payload, h->row[1]);
-    len = spindlefig_lookup(DESKS, h->marks, spindlefig_marks(DESKS), h->stores, spindlefig_stores(DESKS), desk, 7,
+    len = spindlefig_lookup(h->marks, spindlefig_marks(DESKS), h->stores, spindlefig_stores(DESKS), desk, 7,
                             (const uint8_t *)"", 0, shown, sizeof shown);
     printf("style 7 of desk %zu is %.*s\n", desk, (int)len, (const char *)shown);
 }
@@ -143,10 +154,13 @@ int main(void) {
     walk(&h, blink, sizeof blink);
     walk(&h, blink, sizeof blink - 1);
     go_through(&h, 0, skipped, sizeof skipped, sizeof h.out);
+    refuse_head(&h, 0, skipped, sizeof skipped);
+    refuse_head(&h, 9, skipped, sizeof skipped);
+    refuse_head(&h, DESKS + 1, skipped, sizeof skipped);
     go_through(&h, DESKS, skipped, sizeof skipped, sizeof h.out);
     go_through(&h, 0, skipped, sizeof skipped, sizeof h.out - 1);
     printf("give-up of a sample not open: %zu\n",
-           spindlefig_give_up(DESKS, h.places, spindlefig_places(DESKS), h.rows, spindlefig_rows(DESKS), h.marks,
+           spindlefig_give_up(h.places, spindlefig_places(DESKS), h.rows, spindlefig_rows(DESKS), h.marks,
                               spindlefig_marks(DESKS), 0, 1000));
     spindlefig_check(bad, sizeof bad, h.row, 9);
     printf("a book of 5 bytes: %llu, record %llu\n", (unsigned long long)h.row[0], (unsigned long long)h.row[1]);

@@ -1,6 +1,7 @@
 // Runs document 01's twelve cases through the compiled relay and writer, and prints each answer, a line a call.
 use hall::Hall;
 use libc::STDOUT_FILENO;
+use paper::Name;
 use writer::Written;
 
 const PART_1: [u8; 12] = [
@@ -51,7 +52,7 @@ fn number(word: &[u8], n: usize) {
 
 // One call, and its line: the next running time, and what the listing says of the unit.
 fn play(h: Hall, desk: usize, time: u32, payload: &[u8]) -> Hall {
-    let r = hall::receive(h, desk, time, payload);
+    let r = hall::receive(h, Name { desk, time }, payload);
     let answer = r.answer;
     let mut line = [0u8; 64];
     let end = lines::put_line(&mut line, 0, 0, time, answer);
@@ -72,7 +73,7 @@ fn look(h: Hall, index: usize) -> Hall {
     let marks = h.marks;
     let stores = h.stores;
     let book = [0u8; 0];
-    let d = relay::lookup(h.relay, &marks, &stores, 0, index, &book);
+    let d = relay::lookup(&marks, &stores, 0, index, &book);
     number(b"index ", index);
     number(b" shows ", d.len());
     if 0 < d.len() {

@@ -1,3 +1,2 @@
 pub mod Desk
-pub mod Takes
 pub mod Effects

@@ -5,16 +5,16 @@ use mathlib.Core.Path.{_≡_, refl}
 use mathlib.Core.List.{List, []}
 use lib.ListN.{length, drop, replicate}
 use lib.Seq.{sets}
-use Rattle.laws.specs.Exactly.{Determines, determined, equation, determined-by-two, determined-by-three}
+use Rattle.laws.specs.Exactly.{Determines, determined, equation, determined-by-two}
 use Rattle.paper.specs.Limits.{sampleMost}
 use Rattle.paper.specs.declared.Answer.{Answer}
+use Rattle.paper.specs.declared.Name.{Name}
 use Rattle.text.specs.Unicode.{character}
 use Rattle.boxes.specs.Step.{stepOf}
 use Rattle.style.specs.Book.{checkOf}
 use Rattle.writer.specs.Write.{caption, written, described}
 use Rattle.sample.specs.declared.Place.{Place}
-use Rattle.relay.specs.declared.Relay.{Relay}
-use Rattle.relay.specs.Relay.{Tables, tables, Prepared, prepared, setUp, Done, done, receivedAt, Released, released, givenUpAt, lookedUp}
+use Rattle.memory.specs.Relay.{Tables, tables, Prepared, prepared, setUp, Done, done, receivedAt, Released, released, givenUpAt, lookedUp}
 use Rattle.held.specs.declared.Begun.{Begun}
 use Rattle.held.specs.declared.Called.{Called}
 use Rattle.held.specs.declared.Yielded.{Yielded}
@@ -22,8 +22,9 @@ use Rattle.held.specs.Held.{begun, called, yielded}
 use Rattle.hall.specs.declared.Hall.{Hall}
 use Rattle.hall.specs.declared.Heard.{Heard}
 use Rattle.hall.specs.declared.Freed.{Freed}
-use Rattle.hall.specs.Hall.{tablesOf, lent, relayOf, heard, freed}
-use Rattle.export.specs.Export.{Numbered, numbered, startedAs, releasedAs, Rowed, rowed, doneAs, Wrote, wrote, writtenAs, checkedRow, steppedRow, placeSize, rowMost, needed}
+use Rattle.hall.specs.Hall.{tablesOf, lent, heard, freed}
+use Rattle.export.specs.Export.{nameOf, Numbered, numbered, startedAs, releasedAs, Rowed, rowed, doneAs, Wrote, wrote, writtenAs}
+use Rattle.export.specs.Export.{checkedRow, steppedRow, placeSize, rowMost, needed}
 use Rattle.lines.specs.Typed.{Page, page, typed}
 use Rattle.lines.specs.Digits.{digits}
 use Rattle.lines.specs.Line.{lineOf}
@@ -39,49 +40,40 @@ held-set-up n s =
     (λ (m : Prepared). (begun (m .tables .places) (m .answer), m .tables .rows, m .tables .marks, m .tables .stores)) (λ x. refl)
     (setUp n s)
 
-pub held-receive : (n : ℕ) (s : Tables) (desk time : ℕ) (rest out : List ℕ)
+pub held-receive : (s : Tables) (who : Name) (rest out : List ℕ)
     → Determines (λ (x : Called × List ℕ × List ℕ × List ℕ × List ℕ).
-    done (tables (x .0 .places) (x .1) (x .2) (x .3)) (x .4) (x .0 .answer) ≡ receivedAt n s desk time rest out)
-held-receive n s desk time rest out =
+    done (tables (x .0 .places) (x .1) (x .2) (x .3)) (x .4) (x .0 .answer) ≡ receivedAt s who rest out)
+held-receive s who rest out =
     determined (λ x. done (tables (x .0 .places) (x .1) (x .2) (x .3)) (x .4) (x .0 .answer))
     (λ (d : Done). (called (d .tables .places) (d .answer), d .tables .rows, d .tables .marks, d .tables .stores, d .out)) (λ x. refl)
-    (receivedAt n s desk time rest out)
+    (receivedAt s who rest out)
 
-pub held-give-up : (n : ℕ) (places : List Place) (rows marks : List ℕ) (desk time : ℕ)
+pub held-give-up : (places : List Place) (rows marks : List ℕ) (who : Name)
     → Determines (λ (x : Yielded × List ℕ × List ℕ). (stores : List ℕ)
-    → released (tables (x .0 .places) (x .1) (x .2) stores) (x .0 .answer) ≡ givenUpAt n (tables places rows marks stores) desk time)
-held-give-up n places rows marks desk time =
+    → released (tables (x .0 .places) (x .1) (x .2) stores) (x .0 .answer) ≡ givenUpAt (tables places rows marks stores) who)
+held-give-up places rows marks who =
     λ x y a b.
     determined (λ x. released (tables (x .0 .places) (x .1) (x .2) []) (x .0 .answer))
     (λ (r : Released). (yielded (r .tables .places) (r .answer), r .tables .rows, r .tables .marks)) (λ x. refl)
-    (givenUpAt n (tables places rows marks []) desk time) x y (a []) (b [])
+    (givenUpAt (tables places rows marks []) who) x y (a []) (b [])
 
 -- ---- hall: all the memory comes back in the answer
-abbrev hallOf : Tables → Relay → List ℕ → Hall
-hallOf t k o = record { relay = k; places = t .places; rows = t .rows; marks = t .marks; stores = t .stores; out = o }
+abbrev hallOf : Tables → List ℕ → Hall
+hallOf t o = record { places = t .places; rows = t .rows; marks = t .marks; stores = t .stores; out = o }
 
-pub hall-set-up : (n : ℕ)
-    → Determines (λ (r : Hall).
-    (tablesOf r ≡ setUp n lent .tables) × (r .relay ≡ relayOf (setUp n lent .answer)) × (r .out ≡ replicate sampleMost 0))
-hall-set-up n =
-    determined-by-three tablesOf (λ r. r .relay) (λ r. r .out) hallOf (λ r. refl) (setUp n lent .tables) (relayOf (setUp n lent .answer))
-    (replicate sampleMost 0)
+pub hall-set-up : (n : ℕ) → Determines (λ (r : Hall). (tablesOf r ≡ setUp n lent .tables) × (r .out ≡ replicate sampleMost 0))
+hall-set-up n = determined-by-two tablesOf (λ r. r .out) hallOf (λ r. refl) (setUp n lent .tables) (replicate sampleMost 0)
 
-pub hall-receive : (h : Hall) (desk time : ℕ) (rest : List ℕ)
-    → Determines (λ (r : Heard).
-    (heard r ≡ receivedAt (h .relay .desks) (tablesOf h) desk time rest (h .out)) × (r .hall .relay ≡ h .relay))
-hall-receive h desk time rest =
-    determined-by-two heard (λ r. r .hall .relay)
-    (λ (d : Done) k. record { hall = hallOf (d .tables) k (d .out); answer = d .answer }) (λ r. refl)
-    (receivedAt (h .relay .desks) (tablesOf h) desk time rest (h .out)) (h .relay)
+pub hall-receive : (h : Hall) (who : Name) (rest : List ℕ) → Determines (λ (r : Heard). heard r ≡ receivedAt (tablesOf h) who rest (h .out))
+hall-receive h who rest =
+    determined heard (λ (d : Done). record { hall = hallOf (d .tables) (d .out); answer = d .answer }) (λ r. refl)
+    (receivedAt (tablesOf h) who rest (h .out))
 
-pub hall-give-up : (h : Hall) (desk time : ℕ)
-    → Determines (λ (r : Freed).
-    (freed r ≡ givenUpAt (h .relay .desks) (tablesOf h) desk time) × (r .hall .relay ≡ h .relay) × (r .hall .out ≡ h .out))
-hall-give-up h desk time =
-    determined-by-three freed (λ r. r .hall .relay) (λ r. r .hall .out)
-    (λ (d : Released) k o. record { hall = hallOf (d .tables) k o; answer = d .answer }) (λ r. refl)
-    (givenUpAt (h .relay .desks) (tablesOf h) desk time) (h .relay) (h .out)
+pub hall-give-up : (h : Hall) (who : Name)
+    → Determines (λ (r : Freed). (freed r ≡ givenUpAt (tablesOf h) who) × (r .hall .out ≡ h .out))
+hall-give-up h who =
+    determined-by-two freed (λ r. r .hall .out) (λ (d : Released) o. record { hall = hallOf (d .tables) o; answer = d .answer }) (λ r. refl)
+    (givenUpAt (tablesOf h) who) (h .out)
 
 -- ---- export
 pub export-place-size : Determines (λ (r : ℕ). r ≡ placeSize)
@@ -93,33 +85,35 @@ export-output = equation sampleMost
 pub export-row : Determines (λ (r : ℕ). r ≡ rowMost)
 export-row = equation rowMost
 
--- places, rows, marks, stores: so many each
-pub export-sizes : (each n : ℕ) → Determines (λ (r : ℕ). r ≡ needed each n)
-export-sizes each n = equation (needed each n)
+-- places, rows, marks, stores
+pub export-sizes : (need : ℕ → ℕ) (n : ℕ) → Determines (λ (r : ℕ). r ≡ needed need n)
+export-sizes need n = equation (needed need n)
 
 pub export-set-up : (n : ℕ) (s : Tables) → Determines (λ (x : Tables × ℕ). numbered (x .0) (x .1) ≡ startedAs (setUp n s))
 export-set-up n s = determined (λ x. numbered (x .0) (x .1)) (λ (m : Numbered). (m .tables, m .number)) (λ x. refl) (startedAs (setUp n s))
 
-pub export-receive : (n : ℕ) (s : Tables) (desk time : ℕ) (rest out row : List ℕ)
-    → Determines (λ (x : ℕ × Tables × List ℕ × List ℕ). rowed (x .0) (x .1) (x .2) (x .3) ≡ doneAs (receivedAt n s desk time rest out) row)
-export-receive n s desk time rest out row =
+pub export-receive : (s : Tables) (desk time : ℕ) (rest out row : List ℕ)
+    → Determines (λ (x : ℕ × Tables × List ℕ × List ℕ).
+    rowed (x .0) (x .1) (x .2) (x .3) ≡ doneAs (receivedAt s (nameOf desk time) rest out) row)
+export-receive s desk time rest out row =
     determined (λ x. rowed (x .0) (x .1) (x .2) (x .3)) (λ (r : Rowed). (r .used, r .tables, r .out, r .row)) (λ x. refl)
-    (doneAs (receivedAt n s desk time rest out) row)
+    (doneAs (receivedAt s (nameOf desk time) rest out) row)
 
-pub export-give-up : (n : ℕ) (places : List Place) (rows marks : List ℕ) (desk time : ℕ)
+pub export-give-up : (places : List Place) (rows marks : List ℕ) (desk time : ℕ)
     → Determines (λ (x : List Place × List ℕ × List ℕ × ℕ). (stores : List ℕ)
-    → numbered (tables (x .0) (x .1) (x .2) stores) (x .3) ≡ releasedAs (givenUpAt n (tables places rows marks stores) desk time))
-export-give-up n places rows marks desk time =
+    → numbered (tables (x .0) (x .1) (x .2) stores) (x .3)
+    ≡ releasedAs (givenUpAt (tables places rows marks stores) (nameOf desk time)))
+export-give-up places rows marks desk time =
     λ x y a b.
     determined (λ x. numbered (tables (x .0) (x .1) (x .2) []) (x .3))
     (λ (r : Numbered). (r .tables .places, r .tables .rows, r .tables .marks, r .number)) (λ x. refl)
-    (releasedAs (givenUpAt n (tables places rows marks []) desk time)) x y (a []) (b [])
+    (releasedAs (givenUpAt (tables places rows marks []) (nameOf desk time))) x y (a []) (b [])
 
-pub export-lookup : (n : ℕ) (marks stores : List ℕ) (desk index : ℕ) (book out : List ℕ)
+pub export-lookup : (marks stores : List ℕ) (desk index : ℕ) (book out : List ℕ)
     → Determines (λ (x : ℕ × List ℕ).
-    (x .0 ≡ length (lookedUp n marks stores desk index book)) × (x .1 ≡ sets out 0 (lookedUp n marks stores desk index book)))
-export-lookup n marks stores desk index book out =
-    two (length (lookedUp n marks stores desk index book)) (sets out 0 (lookedUp n marks stores desk index book))
+    (x .0 ≡ length (lookedUp marks stores desk index book)) × (x .1 ≡ sets out 0 (lookedUp marks stores desk index book)))
+export-lookup marks stores desk index book out =
+    two (length (lookedUp marks stores desk index book)) (sets out 0 (lookedUp marks stores desk index book))
 
 pub export-check : (book row : List ℕ) → Determines (λ (l : List ℕ). l ≡ sets row 0 (checkedRow (checkOf book)))
 export-check book row = equation (sets row 0 (checkedRow (checkOf book)))

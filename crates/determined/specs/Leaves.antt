@@ -2,15 +2,16 @@
 -- are equal. The functions on bytes, text, units, boxes, samples and descriptions, and the writer. Of a part that is returned the bytes
 -- are determined here, and the place is by its lifetime. Assumes nothing.
 use Prim.Native.Nat.{ℕ, _-_, _<_, min}
-use mathlib.Core.Path.{_≡_, refl}
+use mathlib.Core.Path.{_≡_, refl, sym, _∙_}
 use mathlib.Core.Bool.{Bool}
-use mathlib.Core.List.{List}
-use lib.ListN.{length, getD, set, drop}
+use mathlib.Core.List.{List, []}
+use lib.ListN.{length, getD, set, drop, replicate}
 use lib.Seq.{sets}
 use Rattle.laws.specs.Exactly.{Determines, determined, equation, determined-by-two}
 use Rattle.laws.specs.Region.{part}
 use Rattle.octets.specs.Be.{u8At, u16At, u24At, u32At}
 use Rattle.octets.specs.Same as O
+use Rattle.paper.specs.Limits.{partsMost, sampleMost}
 use Rattle.paper.specs.declared.Refusal.{Refusal}
 use Rattle.paper.specs.declared.Outcome.{Outcome}
 use Rattle.paper.specs.Words.{numberOf, kindOf}
@@ -25,6 +26,9 @@ use Rattle.boxes.specs.Step.{stepOf, contentsOf}
 use Rattle.finished.specs.Times.{late, markedRow, markedUsed}
 use Rattle.joining.specs.Joining.{together, stringOf, sound}
 use Rattle.sample.specs.declared.Place.{Place}
+use Rattle.sample.specs.declared.Head.{Head}
+use Rattle.sample.specs.declared.Lengths.{Lengths}
+use Rattle.sample.specs.Head.{headOf as numbersOf, whole, alone}
 use Rattle.sample.specs.Place as P
 use Rattle.style.specs.declared.Checked.{Checked}
 use Rattle.style.specs.declared.Noted.{Noted}
@@ -114,42 +118,74 @@ pub finished-mark : (row : List ℕ) (used time : ℕ)
 finished-mark row used time =
     determined-by-two (λ x. x .0) (λ x. x .1) (λ l k. (l, k)) (λ x. refl) (markedRow row used time) (markedUsed used)
 
--- ---- sample
+-- ---- sample: the numbers of a place go by value, its arrays are lent where they stand
+-- the four arrays
+abbrev pub Arrays : Type 0
+Arrays = List ℕ × List ℕ × List ℕ × List ℕ
+
+abbrev pub placeOf : Head → Arrays → Place
+placeOf h l = whole h (l .0) (l .1) (l .2) (l .3)
+
+abbrev pub arraysOf : Place → Arrays
+arraysOf p = (p .kinds, p .starts, p .lens, p .bytes)
+
 pub sample-closed : Determines (λ (r : Place). r ≡ P.closed)
 sample-closed = equation P.closed
 
-pub sample-opened : (desk time : ℕ) (x : Part) → Determines (λ (r : Place). r ≡ P.opened desk time x)
-sample-opened desk time x = equation (P.opened desk time x)
+pub sample-closed-head : Determines (λ (r : Head). r ≡ numbersOf P.closed)
+sample-closed-head = equation (numbersOf P.closed)
 
-pub sample-has : (p : Place) (this : ℕ) → Determines (λ (r : Bool). r ≡ P.has p this)
-sample-has p this = equation (P.has p this)
+pub sample-opened : (desk time : ℕ) (x : Part) → Determines (λ (r : Head). r ≡ numbersOf (P.opened desk time x))
+sample-opened desk time x = equation (numbersOf (P.opened desk time x))
 
-pub sample-agrees : (p : Place) (x : Part) → Determines (λ (r : Bool). r ≡ P.agrees p x)
-sample-agrees p x = equation (P.agrees p x)
+pub sample-clear :
+    Determines (λ (l : Arrays).
+    (l .0 ≡ replicate partsMost 0) × (l .1 ≡ replicate partsMost 0) × (l .2 ≡ replicate partsMost 0) × (l .3 ≡ replicate sampleMost 0))
+sample-clear =
+    λ x y p q i.
+    ((p .0 ∙ sym (q .0)) i, (p .1 ∙ sym (q .1)) i, (p .2 ∙ sym (q .2)) i, (p .3 ∙ sym (q .3)) i)
 
-pub sample-repeats : (p : Place) (x : Part) (d : List ℕ) → Determines (λ (r : Bool). r ≡ P.repeats p x d)
-sample-repeats p x d = equation (P.repeats p x d)
+pub sample-has : (h : Head) (this : ℕ) → Determines (λ (r : Bool). r ≡ P.has (alone h) this)
+sample-has h this = equation (P.has (alone h) this)
 
-pub sample-oversize : (p : Place) (x : Part) (n : ℕ) → Determines (λ (r : Bool). r ≡ P.oversize p x n)
-sample-oversize p x n = equation (P.oversize p x n)
+pub sample-agrees : (h : Head) (x : Part) → Determines (λ (r : Bool). r ≡ P.agrees (alone h) x)
+sample-agrees h x = equation (P.agrees (alone h) x)
 
-pub sample-keep : (p : Place) (x : Part) (d : List ℕ) → Determines (λ (r : Place). r ≡ P.kept p x d)
-sample-keep p x d = equation (P.kept p x d)
+pub sample-repeats : (h : Head) (l : Arrays) (x : Part) (d : List ℕ) → Determines (λ (r : Bool). r ≡ P.repeats (placeOf h l) x d)
+sample-repeats h l x d = equation (P.repeats (placeOf h l) x d)
 
-pub sample-missing : (p : Place) → Determines (λ (r : ℕ). r ≡ P.missing p)
-sample-missing p = equation (P.missing p)
+pub sample-oversize : (h : Head) (x : Part) (n : ℕ) → Determines (λ (r : Bool). r ≡ P.oversize (alone h) x n)
+sample-oversize h x n = equation (P.oversize (alone h) x n)
 
-pub sample-string-len : (p : Place) → Determines (λ (r : ℕ). r ≡ length (stringOf (P.piecesOf p)))
-sample-string-len p = equation (length (stringOf (P.piecesOf p)))
+pub sample-keep : (h : Head) (l : Arrays) (x : Part) (d : List ℕ)
+    → Determines (λ (r : Head × Arrays). placeOf (r .0) (r .1) ≡ P.kept (placeOf h l) x d)
+sample-keep h l x d =
+    determined (λ r. placeOf (r .0) (r .1)) (λ (p : Place). (numbersOf p, arraysOf p)) (λ r. refl) (P.kept (placeOf h l) x d)
 
-pub sample-sample-len : (p : Place) → Determines (λ (r : ℕ). r ≡ length (together (P.piecesOf p)))
-sample-sample-len p = equation (length (together (P.piecesOf p)))
+pub sample-missing : (h : Head) → Determines (λ (r : ℕ). r ≡ P.missing (alone h))
+sample-missing h = equation (P.missing (alone h))
 
-pub sample-is-sound : (p : Place) → Determines (λ (r : Bool). r ≡ sound (p .slen) (P.piecesOf p))
-sample-is-sound p = equation (sound (p .slen) (P.piecesOf p))
+pub sample-measure : (h : Head) (l : Arrays)
+    → Determines (λ (r : Lengths).
+    (r .string ≡ length (stringOf (P.piecesOf (placeOf h l)))) × (r .sample ≡ length (together (P.piecesOf (placeOf h l)))))
+sample-measure h l =
+    determined-by-two (λ r. r .string) (λ r. r .sample) (λ a b. record { string = a; sample = b }) (λ r. refl)
+    (length (stringOf (P.piecesOf (placeOf h l)))) (length (together (P.piecesOf (placeOf h l))))
 
-pub sample-put-together : (p : Place) (out : List ℕ) → Determines (λ (o : List ℕ). o ≡ sets out 0 (together (P.piecesOf p)))
-sample-put-together p out = equation (sets out 0 (together (P.piecesOf p)))
+-- it is told how long the parts are, put together, and says the same of all that are so long
+pub sample-is-sound : (h : Head) (l : Arrays) (many : ℕ) → many ≡ length (together (P.piecesOf (placeOf h l)))
+    → Determines (λ (r : Bool). (starts lens bytes : List ℕ)
+    → many ≡ length (together (P.piecesOf (whole h (l .0) starts lens bytes)))
+    → r ≡ sound (h .slen) (P.piecesOf (whole h (l .0) starts lens bytes)))
+sample-is-sound h l many e =
+    λ x y p q.
+    equation (sound (h .slen) (P.piecesOf (placeOf h l))) x y (p (l .1) (l .2) (l .3) e) (q (l .1) (l .2) (l .3) e)
+
+-- it is lent no kinds
+pub sample-put-together : (h : Head) (starts lens bytes out : List ℕ)
+    → Determines (λ (o : List ℕ). (kinds : List ℕ) → o ≡ sets out 0 (together (P.piecesOf (whole h kinds starts lens bytes))))
+sample-put-together h starts lens bytes out =
+    λ x y p q. equation (sets out 0 (together (P.piecesOf (whole h [] starts lens bytes)))) x y (p []) (q [])
 
 -- ---- style
 pub style-check : (book : List ℕ) → Determines (λ (r : Checked). r ≡ checkOf book)

@@ -1,3 +1,4 @@
 pub mod Leaves
+pub mod Steps
 pub mod Relay
 pub mod Faces

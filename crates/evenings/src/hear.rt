@@ -3,6 +3,7 @@ use desk::GivenUp;
 use hall::Hall;
 use libc::STDOUT_FILENO;
 use paper::Facts;
+use paper::Name;
 use paper::Outcome;
 use writer::Written;
 
@@ -35,7 +36,7 @@ fn hand_out(h: Hall, outcome: Outcome) -> Hall {
 
 // The payload's first unit.
 pub(crate) fn payload(h: Hall, desk: usize, time: u32, rest: &[u8]) -> Hall {
-    let r = hall::receive(h, desk, time, rest);
+    let r = hall::receive(h, Name { desk, time }, rest);
     let answer = r.answer;
     let mut line = [0u8; 64];
     let end = lines::put_line(&mut line, 0, 0, time, answer);
@@ -57,7 +58,7 @@ pub(crate) fn send(h: Hall, desk: usize, time: u32, text: &[u8], m: usize, k: us
 }
 
 pub(crate) fn give_up(h: Hall, desk: usize, time: u32) {
-    let r = hall::give_up(h, desk, time);
+    let r = hall::give_up(h, Name { desk, time });
     let answer = r.answer;
     number(b"desk ", desk);
     match answer {
@@ -73,7 +74,7 @@ pub(crate) fn look(h: Hall, desk: usize, index: usize) -> Hall {
     let book = [0u8; 0];
     number(b"desk ", desk);
     print(b" is shown: ");
-    print(relay::lookup(h.relay, &marks, &stores, desk, index, &book));
+    print(relay::lookup(&marks, &stores, desk, index, &book));
     print(b"\n");
     h
 }

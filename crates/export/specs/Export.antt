@@ -1,10 +1,11 @@
 -- Answers as numbers, for callers in other languages: a lent row gets the values one after the other. Assumes nothing.
-use Prim.Native.Nat.{ℕ, _*_}
+use Prim.Native.Nat.{ℕ}
 use mathlib.Core.List.{List, [], _∷_}
 use lib.Seq.{sets}
 use Rattle.laws.specs.Rows.{_⇒_⁏_}
 use Rattle.paper.specs.Words.{kindOf, valuesOf}
 use Rattle.paper.specs.declared.Answer.{Answer}
+use Rattle.paper.specs.declared.Name.{Name}
 use Rattle.style.specs.declared.Checked.{Checked}
 use Rattle.style.specs.Book.{checkedNumber, checkedValues}
 use Rattle.boxes.specs.declared.Found.{Found}
@@ -13,8 +14,7 @@ use Rattle.writer.specs.declared.Written.{Written}
 use Rattle.writer.specs.Write.{writtenNumber, writtenValues}
 use Rattle.writer.specs.Write as Write
 use Rattle.desk.specs.Desk.{givenUpNumber}
-use Rattle.relay.specs.declared.Relay.{Relay}
-use Rattle.relay.specs.Relay.{Tables, Prepared, startedNumber, Done, Released, improper}
+use Rattle.memory.specs.Relay.{Tables, Prepared, startedNumber, Done, Released, improper}
 
 -- ---- the numbers of each answer
 -- used, next, the outcome's kind, and its values
@@ -33,9 +33,9 @@ writtenRow w = writtenNumber w ∷ writtenValues w
 abbrev pub steppedRow : (next : ℕ) → Found → List ℕ
 steppedRow next f = next ∷ foundKind f ∷ foundValues f
 
--- what the later calls take: how many desks there are
-abbrev pub relayWith : (desks : ℕ) → Relay
-relayWith desks = record { desks = desks }
+-- ---- the name of a sample, from numbers
+abbrev pub nameOf : (desk time : ℕ) → Name
+nameOf desk time = record { desk = desk; time = time }
 
 -- ---- what a caller lends
 -- the bytes of a place in memory
@@ -46,13 +46,9 @@ placeSize = 1472
 abbrev pub rowMost : ℕ
 rowMost = 9
 
--- the desks that are served; none where there is no such relay
-unfoldable pub served : (n : ℕ) → ℕ
-served n = improper n ⇒ 0 ⁏ n
-
--- what n desks need of a table, so many each
-abbrev pub needed : (each n : ℕ) → ℕ
-needed each n = each * served n
+-- what n desks need of a table; nothing where there is no relay for n desks
+abbrev pub needed : (need : ℕ → ℕ) → (n : ℕ) → ℕ
+needed need n = improper n ⇒ 0 ⁏ need n
 
 -- ---- what a call leaves: the tables with the number, or with the output and the row
 pub record Numbered : Type 0 where

@@ -1,35 +1,35 @@
 // The relay for C and Rust: numbers and slices only. An answer goes as numbers into a lent row.
 use boxes::Found;
 use desk::GivenUp;
+use memory::Started;
 use paper::Answer;
 use paper::Facts;
+use paper::Name;
 use paper::Outcome;
-use paper::limits::DESKS_MOST;
 use paper::limits::FINISHED_MOST;
+use paper::limits::HEAD_SIZE;
 use paper::limits::MARKS_EACH;
 use paper::limits::PLACES_EACH;
 use paper::limits::SAMPLE_MOST;
 use paper::limits::STORE_SIZE;
-use relay::Relay;
-use relay::Started;
 use sample::Place;
 use style::Checked;
 use writer::Written;
 ghost use mathlib.Core.Path.{_≡_};
 ghost use mathlib.Core.List.{List, [], _∷_};
-ghost use Prim.Native.Nat.{ℕ, _≤_};
+ghost use Prim.Native.Nat.{ℕ, _*_, _≤_};
 ghost use lib.ListN.{length, drop, set};
 ghost use lib.Seq.{sets};
-ghost use Rattle.paper.specs.Limits.{sampleMost, finishedMost, desksMost, placesEach, marksEach, storeSize};
+ghost use Rattle.paper.specs.Limits.{sampleMost, storeSize, places, rowsNeed, marksNeed, storesNeed};
 ghost use Rattle.paper.specs.Words.{factsOf, valuesOf};
 ghost use Rattle.desk.specs.Desk.{givenUpNumber};
-ghost use Rattle.relay.specs.Relay.{tables, startedNumber, setUp, receivedAt, givenUpAt, lookedUp};
+ghost use Rattle.memory.specs.Relay.{tables, startedNumber, setUp, receivedAt, givenUpAt, lookedUp};
 ghost use Rattle.style.specs.Book.{checkOf};
 ghost use Rattle.boxes.specs.Step.{stepOf};
 ghost use Rattle.text.specs.Unicode.{character};
 ghost use Rattle.writer.specs.Write.{caption, written, described};
-ghost use Rattle.export.specs.Export.{answerRow, checkedRow, writtenRow, steppedRow, placeSize, rowMost, served, needed};
-ghost use Rattle.export.specs.Export.{relayWith, numbered, startedAs, releasedAs, rowed, doneAs, wrote, writtenAs};
+ghost use Rattle.export.specs.Export.{answerRow, checkedRow, writtenRow, steppedRow, placeSize, rowMost, needed};
+ghost use Rattle.export.specs.Export.{nameOf, numbered, startedAs, releasedAs, rowed, doneAs, wrote, writtenAs};
 
 // Stores a number in a row; past the end, nothing.
 fn put_at(row: &mut [u64], i: usize, v: usize)
@@ -119,17 +119,17 @@ fn put_stepped(row: &mut [u64], next: usize, f: Found)
     }
 }
 
-fn relay_of(desks: usize) -> Relay
-    ensures { λ r. ⌜ r ≡ relayWith desks ⌝ }
+fn name_of(desk: usize, time: u32) -> Name
+    ensures { λ r. ⌜ r ≡ nameOf desk time ⌝ }
 {
-    Relay { desks }
+    Name { desk, time }
 }
 
 fn started_number(s: Started) -> usize
     ensures { λ r. ⌜ r ≡ startedNumber s ⌝ }
 {
     match s {
-        Started::Ready(_) => 0,
+        Started::Ready => 0,
         Started::Refused(r) => paper::number(r),
     }
 }
@@ -143,13 +143,15 @@ fn given_up_number(g: GivenUp) -> usize
     }
 }
 
-fn desks_served(n: usize) -> usize
-    ensures { λ r. ⌜ (r ≡ served n) × (r ≤ desksMost) ⌝ }
+// So many for each of n desks; 0 where there is no relay for n desks.
+fn size_for(n: usize, each: usize) -> usize
+    requires { ⌜ each ≤ storeSize ⌝ }
+    ensures { λ r. ⌜ r ≡ needed (λ (m : ℕ). each * m) n ⌝ }
 {
-    if DESKS_MOST < n {
+    if steps::tests::is_improper(n) {
         return 0;
     }
-    n
+    each * n
 }
 
 // The bytes of a place.
@@ -179,30 +181,33 @@ pub extern "C" fn spindlefig_row() -> usize
 // What n desks need, in elements; 0 where n is not 1 to 8.
 #[no_mangle]
 pub extern "C" fn spindlefig_places(n: usize) -> usize
-    ensures { λ r. ⌜ r ≡ needed placesEach n ⌝ }
+    ensures { λ r. ⌜ r ≡ needed places n ⌝ }
 {
-    PLACES_EACH * desks_served(n)
+    size_for(n, PLACES_EACH)
 }
 
 #[no_mangle]
 pub extern "C" fn spindlefig_rows(n: usize) -> usize
-    ensures { λ r. ⌜ r ≡ needed finishedMost n ⌝ }
+    ensures { λ r. ⌜ r ≡ needed rowsNeed n ⌝ }
 {
-    FINISHED_MOST * desks_served(n)
+    size_for(n, FINISHED_MOST)
 }
 
 #[no_mangle]
 pub extern "C" fn spindlefig_marks(n: usize) -> usize
-    ensures { λ r. ⌜ r ≡ needed marksEach n ⌝ }
+    ensures { λ r. ⌜ r ≡ needed marksNeed n ⌝ }
 {
-    MARKS_EACH * desks_served(n)
+    if steps::tests::is_improper(n) {
+        return 0;
+    }
+    HEAD_SIZE + MARKS_EACH * n
 }
 
 #[no_mangle]
 pub extern "C" fn spindlefig_stores(n: usize) -> usize
-    ensures { λ r. ⌜ r ≡ needed storeSize n ⌝ }
+    ensures { λ r. ⌜ r ≡ needed storesNeed n ⌝ }
 {
-    STORE_SIZE * desks_served(n)
+    size_for(n, STORE_SIZE)
 }
 
 // Makes what n desks need fresh. Answers 0, or 1 where it is refused.
@@ -224,7 +229,6 @@ pub extern "C" fn spindlefig_set_up(
 // Takes the unit at the front of the rest. Answers the bytes used; the row gets all of the answer.
 #[no_mangle]
 pub extern "C" fn spindlefig_receive(
-    desks: usize,
     places: &mut [Place],
     rows: &mut [u32],
     marks: &mut [u32],
@@ -237,18 +241,17 @@ pub extern "C" fn spindlefig_receive(
 ) -> usize
     ensures { λ r. ⌜ rowed r (tables (now (places .exit)) (now (rows .exit)) (now (marks .exit)) (now (stores .exit)))
         (now (out .exit)) (now (row .exit))
-        ≡ doneAs (receivedAt desks (tables (now (places .entry)) (now (rows .entry)) (now (marks .entry)) (now (stores .entry)))
-        desk time (now (rest .entry)) (now (out .entry))) (now (row .entry)) ⌝ }
+        ≡ doneAs (receivedAt (tables (now (places .entry)) (now (rows .entry)) (now (marks .entry)) (now (stores .entry)))
+        (nameOf desk time) (now (rest .entry)) (now (out .entry))) (now (row .entry)) ⌝ }
 {
-    let r = relay_of(desks);
-    let a = relay::receive(r, places, rows, marks, stores, desk, time, rest, out);
+    let who = name_of(desk, time);
+    let a = relay::receive(places, rows, marks, stores, who, rest, out);
     put_answer(row, a)
 }
 
 // Gives a desk's open sample up. Answers 0, or the refusal.
 #[no_mangle]
 pub extern "C" fn spindlefig_give_up(
-    desks: usize,
     places: &mut [Place],
     rows: &mut [u32],
     marks: &mut [u32],
@@ -257,17 +260,17 @@ pub extern "C" fn spindlefig_give_up(
 ) -> usize
     ensures { λ r. ⌜ ((stores : List ℕ)
         → numbered (tables (now (places .exit)) (now (rows .exit)) (now (marks .exit)) stores) r
-        ≡ releasedAs (givenUpAt desks (tables (now (places .entry)) (now (rows .entry)) (now (marks .entry)) stores) desk time)) ⌝ }
+        ≡ releasedAs (givenUpAt (tables (now (places .entry)) (now (rows .entry)) (now (marks .entry)) stores)
+        (nameOf desk time))) ⌝ }
 {
-    let r = relay_of(desks);
-    let g = relay::give_up(r, places, rows, marks, desk, time);
+    let who = name_of(desk, time);
+    let g = relay::give_up(places, rows, marks, who);
     given_up_number(g)
 }
 
 // Writes the description that an index shows to the front of the output, and answers its length; 0 where there is none.
 #[no_mangle]
 pub extern "C" fn spindlefig_lookup<'a>(
-    desks: usize,
     marks: &[u32],
     stores: &'a [u8],
     desk: usize,
@@ -275,11 +278,11 @@ pub extern "C" fn spindlefig_lookup<'a>(
     book: &'a [u8],
     out: &mut [u8],
 ) -> usize
-    ensures { λ r. ⌜ (r ≡ length (lookedUp desks (now (marks .entry)) (now (stores .entry)) desk index (now (book .entry))))
+    ensures { λ r. ⌜ (r ≡ length (lookedUp (now (marks .entry)) (now (stores .entry)) desk index (now (book .entry))))
         × (now (out .exit) ≡ sets (now (out .entry)) 0
-        (lookedUp desks (now (marks .entry)) (now (stores .entry)) desk index (now (book .entry)))) ⌝ }
+        (lookedUp (now (marks .entry)) (now (stores .entry)) desk index (now (book .entry)))) ⌝ }
 {
-    let d = relay::lookup(Relay { desks }, marks, stores, desk, index, book);
+    let d = relay::lookup(marks, stores, desk, index, book);
     octets::put(out, 0, d);
     d.len()
 }

@@ -21,19 +21,20 @@ fn held(used: usize, len: usize) -> usize
     FINISHED_MOST
 }
 
-// Whether the time is a finished one.
+// Whether the time is a finished one. The loop has no early exit, so that it is vectorised.
 pub fn is_late(row: &[u32], used: usize, time: u32) -> bool
     ensures { λ r. ⌜ r ≡ late (now (row .entry)) used time ⌝ }
 {
     let n = held(used, row.len());
+    let mut hit = false;
     let mut i = 0;
     while i < n {
         if row[i] == time {
-            return true;
+            hit = true;
         }
         i += 1;
     }
-    false
+    hit
 }
 
 // The oldest goes, the others move down, and the time is the last.

@@ -14,9 +14,9 @@ use Rattle.laws.specs.Sums.{sum, sum-more, sum-add, sum-gap, sum-ge, sum-zero}
 use Rattle.paper.specs.Limits.{ownPlaces, openMost, places, common}
 use Rattle.sample.specs.declared.Place.{Place}
 use Rattle.sample.specs.Place.{bare, closed}
-use Rattle.table.specs.Table.{vacant, mine, isAt}
+use Rattle.memory.specs.Table.{vacant, mine, isAt}
 use Rattle.desk.specs.declared.Shares.{Shares}
-use Rattle.relay.specs.Relay.{openAt, commonUse, sharesOf}
+use Rattle.memory.specs.Relay.{openAt, commonUse, sharesOf}
 use Rattle.good.specs.Places.{open-none, Moved}
 
 -- a sample is open once at most; a desk has six open at most, and only desks below n have any; the common use is at most the common places

@@ -1,5 +1,5 @@
--- Good tables: long enough for n desks, with fair places, each of them as its parts made it. Set-up makes them and every call keeps
--- them, whatever it is handed. Assumes nothing.
+-- Good tables: n is in their head, they are long enough for n desks, with fair places, each of them as its parts made it. Set-up makes
+-- them and every call keeps them, whatever it is handed. Assumes nothing.
 use Prim.Native.Nat.{ℕ, zero, suc, _*_, _≤_, _<_}
 use native.Mathlib.Omega.{arith}
 use mathlib.Core.Path.{_≡_, refl, sym, ap, subst, _∙_}
@@ -9,20 +9,28 @@ use lib.ListN.{length, take, drop, getD, set, replicate, length-append, length-s
 use lib.Seq.{sets, length-sets, length-take-le, take-at, sets-eq}
 use Rattle.laws.specs.Rows.{_⇒_⁏_, _or_, _<?_, no, lt, ge, ne, lt-of, ge-of, ne-of, or-none}
 use Rattle.laws.specs.Exactly.{Exactly}
-use Rattle.laws.specs.Region.{length-cell, length-cells}
-use Rattle.paper.specs.Limits.{finishedMost, desksMost, placesEach, marksEach, storeSize, places}
+use Rattle.laws.specs.Region.{part, length-cell}
+use Rattle.paper.specs.Limits.{headSize, finishedMost, desksMost, marksEach, storeSize, places, rowsNeed, marksNeed, storesNeed}
 use Rattle.paper.specs.declared.Refusal.the-variants as R
+use Rattle.paper.specs.declared.Name.{Name}
 use Rattle.sample.specs.declared.Place.{Place}
 use Rattle.sample.specs.Place.{closed}
 use Rattle.sample.specs.Kept.{Made}
 use Rattle.sample.specs.Made.{closed-made}
 use Rattle.desk.specs.Desk.{Own}
-use Rattle.relay.specs.declared.Started.the-variants.{Refused}
-use Rattle.relay.specs.Relay.{Tables, placesOf, ownOf, sharesOf, placed, standsAt, putBack, improper, stranger, short, lacksThree, lacking, Prepared, prepared, ready, freshMarks, freshTables, setUp, ordered, receivedAt, yielded, givenUpAt}
-use Rattle.relay.specs.Back.{put-same}
+use Rattle.memory.specs.declared.Started.the-variants.{Ready, Refused}
+use Rattle.memory.specs.Relay.{Tables, desksOf, placesOf, ownOf, sharesOf, placed, standsAt, putBack, improper, stranger, short}
+use Rattle.memory.specs.Relay.{lacksThree, lacking, Prepared, prepared, ownMarks, freshMarks, freshTables, setUp, ordered, yielded}
+use Rattle.memory.specs.Relay.{receivedAmong, receivedAt, givenUpAmong, givenUpAt}
+use Rattle.memory.specs.Back.{put-same}
+use Rattle.good.specs.Cells.{Cells, behind, front, cells-behind, length-front, cells-front}
 use Rattle.good.specs.Places.{open-named, Moved, moved}
 use Rattle.good.specs.Fair.{Fair, room, fair-closed, fair-moved}
 use Rattle.good.specs.Leaves.{Leaves, ordered-leaves, yielded-leaves}
+
+-- a desk's sample of a time, as a call is told it
+abbrev pub name : (desk time : ℕ) → Name
+name desk time = record { desk = desk; time = time }
 
 -- a place as its parts made it; a free one is the closed record
 pub record Well (p : Place) : Type 0 where
@@ -32,10 +40,11 @@ pub record Well (p : Place) : Type 0 where
 pub record Good (n : ℕ) (s : Tables) : Type 0 where
   pub from : 1 ≤ n
   pub to : n ≤ desksMost
-  pub places : placesEach * n ≤ length (s .places)
-  pub rows : finishedMost * n ≤ length (s .rows)
-  pub marks : marksEach * n ≤ length (s .marks)
-  pub stores : storeSize * n ≤ length (s .stores)
+  pub head : desksOf (s .marks) ≡ n
+  pub places : places n ≤ length (s .places)
+  pub rows : rowsNeed n ≤ length (s .rows)
+  pub marks : marksNeed n ≤ length (s .marks)
+  pub stores : storesNeed n ≤ length (s .stores)
   pub fair : Fair n (placesOf n s)
   pub well : (i : ℕ) → Well (getD (placesOf n s) i closed)
 
@@ -62,16 +71,16 @@ unfolding short
 no-lack n s g = sym (no _ true (no-lack-three n s g) (sym (ge _ _ (g .stores))))
 
 -- ---- set-up: it is ready exactly if n is 1 to 8 and all that is lent is long enough
-pub ready-exactly : (n : ℕ) (s : Tables) → Exactly (setUp n s .answer ≡ ready n) ((improper n or lacking n s) ≡ false)
+pub ready-exactly : (n : ℕ) (s : Tables) → Exactly (setUp n s .answer ≡ Ready) ((improper n or lacking n s) ≡ false)
 unfolding setUp _⇒_⁏_
 ready-exactly n s = (go (improper n or lacking n s), λ e. rw e)
   where
-    go : (b : Bool) → (b ⇒ prepared s (Refused R.Desk) ⁏ prepared (freshTables n s) (ready n)) .answer ≡ ready n → b ≡ false
+    go : (b : Bool) → (b ⇒ prepared s (Refused R.Desk) ⁏ prepared (freshTables n s) Ready) .answer ≡ Ready → b ≡ false
     go true q = let z : _≡_ {A = ℕ} 0 1 = cc in absurd (omega arith)
     go false q = refl
 
-pub front : (n : ℕ) (l : List Place) → n ≤ length l → take n (sets l 0 (replicate n closed)) ≡ replicate n closed
-front n l h =
+pub all-closed : (n : ℕ) (l : List Place) → n ≤ length l → take n (sets l 0 (replicate n closed)) ≡ replicate n closed
+all-closed n l h =
     let k = length-replicate n closed in
     ap (take n) (sets-eq (replicate n closed) l 0 (omega arith)) ∙ take-at (replicate n closed) _ n k
 
@@ -80,7 +89,20 @@ none-open zero i = refl
 none-open (suc k) zero = refl
 none-open (suc k) (suc i) = none-open k i
 
-pub set-up-good : (n : ℕ) (s : Tables) → setUp n s .answer ≡ ready n → Good n (setUp n s .tables)
+own-length : (n : ℕ) → length (ownMarks n) ≡ marksEach * n
+unfolding ownMarks
+own-length zero = refl
+own-length (suc n) = omega (arith, own-length n)
+
+pub fresh-length : (n : ℕ) → length (freshMarks n) ≡ marksNeed n
+fresh-length n = omega (arith, own-length n)
+
+-- the first number of the marks is that of their head
+head-first : (marks : List ℕ) → desksOf (part 0 headSize marks) ≡ desksOf marks
+head-first [] = refl
+head-first (m ∷ ms) = refl
+
+pub set-up-good : (n : ℕ) (s : Tables) → setUp n s .answer ≡ Ready → Good n (setUp n s .tables)
 unfolding setUp improper short
 set-up-good n s q =
     let e = ready-exactly n s .0 q in
@@ -90,17 +112,19 @@ set-up-good n s q =
     let three = or-none _ _ (c .0) in
     let two = or-none _ _ (three .1) in
     let z : n ≡ 0 → ⊥ = ne-of _ _ (b .0) in
-    let p : placesEach * n ≤ length (s .places) = ge-of _ _ (three .0) in
+    let p : places n ≤ length (s .places) = ge-of _ _ (three .0) in
+    let m : marksNeed n ≤ length (s .marks) = ge-of _ _ (two .1) in
     subst (λ (m : Prepared). Good n (m .tables)) (no _ _ e refl)
     (record {
       from = omega arith;
       to = ge-of _ _ (b .1);
+      head = ap desksOf (sets-eq (freshMarks n) (s .marks) 0 (omega (arith, fresh-length n)));
       places = omega (arith, length-sets (s .places) 0 (replicate (places n) closed));
-      rows = omega (arith, ge-of _ _ (two .0), length-sets (s .rows) 0 (replicate (finishedMost * n) 0));
-      marks = omega (arith, ge-of _ _ (two .1), length-sets (s .marks) 0 (freshMarks n));
-      stores = omega (arith, ge-of _ _ (c .1), length-sets (s .stores) 0 (replicate (storeSize * n) 0));
-      fair = rw (front (places n) (s .places) p) (fair-closed n (places n));
-      well = λ i. rw (front (places n) (s .places) p, none-open (places n) i) (record { made = closed-made; free = λ u. refl });
+      rows = omega (arith, ge-of _ _ (two .0), length-sets (s .rows) 0 (replicate (rowsNeed n) 0));
+      marks = omega (arith, length-sets (s .marks) 0 (freshMarks n));
+      stores = omega (arith, ge-of _ _ (c .1), length-sets (s .stores) 0 (replicate (storesNeed n) 0));
+      fair = rw (all-closed (places n) (s .places) p) (fair-closed n (places n));
+      well = λ i. rw (all-closed (places n) (s .places) p, none-open (places n) i) (record { made = closed-made; free = λ u. refl });
     })
 
 -- one place more, as its parts made it
@@ -112,13 +136,13 @@ well-set (y ∷ l) (suc i) p h w zero = h 0
 well-set (y ∷ l) (suc i) p h w (suc j) = well-set l i p (λ j. h (suc j)) w j
 
 -- ---- what a desk's call leaves, put back
--- it fits: in the table nothing but the desk's sample of that time changes, and the lists are as long as the desk's parts
+-- it fits: in the table nothing but the desk's sample of that time changes, and in each list nothing but the desk's cell
 pub record Fits (n : ℕ) (s : Tables) (desk time : ℕ) (o : Own) : Type 0 where
   pub moved : Moved desk time (o .place) (placesOf n s) (placesOf n (putBack n s desk time o))
-  pub places : length (placed desk time (o .place) (placesOf n s)) ≡ placesEach * n
-  pub row : length (o .row) ≡ finishedMost
-  pub marks : length (o .marks) ≡ marksEach
-  pub store : length (o .store) ≡ storeSize
+  pub places : length (placed desk time (o .place) (placesOf n s)) ≡ places n
+  pub rows : Cells front finishedMost n desk (s .rows) (o .row)
+  pub marks : Cells (behind headSize) marksEach n desk (s .marks) (o .marks)
+  pub stores : Cells front storeSize n desk (s .stores) (o .store)
 
 module _ (n : ℕ) (s : Tables) (desk time : ℕ) where
   -- o is what a call with this output may leave of the desk's own things
@@ -135,19 +159,26 @@ module _ (n : ℕ) (s : Tables) (desk time : ℕ) where
               rw (take-at (placed desk time (o .place) (placesOf n s)) (drop (places n) (s .places)) (places n) p)
               (moved desk time (o .place) (placesOf n s) (k .named) (λ u f. room n desk (placesOf n s) (g .fair) (k .new u f) l h));
           places = p;
-          row = k .row ∙ length-cell finishedMost n desk (s .rows) (g .rows) h;
-          marks = k .marks ∙ length-cell marksEach n desk (s .marks) (g .marks) h;
-          store = k .store ∙ length-cell storeSize n desk (s .stores) (g .stores) h;
+          rows =
+              cells-front finishedMost n desk (s .rows) (g .rows) h (o .row)
+              (k .row ∙ length-front finishedMost n desk (s .rows) (g .rows) h);
+          marks =
+              cells-behind headSize marksEach n desk (s .marks) (g .marks) h (o .marks)
+              (k .marks ∙ length-cell headSize marksEach n desk (s .marks) (g .marks) h);
+          stores =
+              cells-front storeSize n desk (s .stores) (g .stores) h (o .store)
+              (k .store ∙ length-front storeSize n desk (s .stores) (g .stores) h);
         }
 
     put-good : Good n (putBack n s desk time o)
     put-good = record {
       from = g .from;
       to = g .to;
+      head = sym (head-first (putBack n s desk time o .marks)) ∙ ap desksOf (fits .marks .before) ∙ head-first (s .marks) ∙ g .head;
       places = omega (arith, length-append (placed desk time (o .place) (placesOf n s)) (drop (places n) (s .places)), fits .places);
-      rows = omega (arith, g .rows, length-cells finishedMost n desk (s .rows) (g .rows) h (o .row) (fits .row));
-      marks = omega (arith, g .marks, length-cells marksEach n desk (s .marks) (g .marks) h (o .marks) (fits .marks));
-      stores = omega (arith, g .stores, length-cells storeSize n desk (s .stores) (g .stores) h (o .store) (fits .store));
+      rows = omega (arith, g .rows, fits .rows .long);
+      marks = omega (arith, g .marks, fits .marks .long);
+      stores = omega (arith, g .stores, fits .stores .long);
       fair = fair-moved n desk time (o .place) (placesOf n s) _ (g .fair) h (fits .moved) (k .new);
       well =
           rw (take-at (placed desk time (o .place) (placesOf n s)) (drop (places n) (s .places)) (places n) (fits .places))
@@ -163,19 +194,23 @@ module _ (n : ℕ) (s : Tables) (desk time : ℕ) where
   give-up-left one = yielded-leaves _ (ownOf n s desk time []) desk time (open-named desk time (placesOf n s)) one
 
   -- what holds of the tables, and of them with what a call may leave put back, holds after every call
-  module _ (P : Tables → Type 0) (same : P s) where
-    pub receive-each : (rest out : List ℕ) → (desk < n → (o : Own) → Left out o → P (putBack n s desk time o)) → P (receivedAt n s desk time rest out .tables)
-    unfolding receivedAt ordered _⇒_⁏_
-    receive-each rest out put = go (stranger n desk or lacking n s) refl
+  module _ (head : desksOf (s .marks) ≡ n) (P : Tables → Type 0) (same : P s) where
+    pub receive-each : (rest out : List ℕ) → (desk < n → (o : Own) → Left out o → P (putBack n s desk time o))
+        → P (receivedAt s (name desk time) rest out .tables)
+    unfolding receivedAmong ordered _⇒_⁏_
+    receive-each rest out put =
+        subst (λ (k : ℕ). P (receivedAmong k s desk time rest out .tables)) (sym head) (go (stranger n desk or lacking n s) refl)
       where
         go : (one : Bool) → (stranger n desk or lacking n s) ≡ one
             → P (putBack n s desk time (ordered one (sharesOf n desk (placesOf n s)) (ownOf n s desk time out) desk time rest .own))
         go true e = subst P (sym (put-same n s desk time out)) same
         go false e = put (below n desk (or-none _ _ e .0)) _ (receive-left false rest out)
 
-    pub give-up-each : (desk < n → (o : Own) → Left [] o → P (putBack n s desk time o)) → P (givenUpAt n s desk time .tables)
-    unfolding givenUpAt yielded _⇒_⁏_
-    give-up-each put = go (stranger n desk or lacksThree n (length (s .places)) (length (s .rows)) (length (s .marks))) refl
+    pub give-up-each : (desk < n → (o : Own) → Left [] o → P (putBack n s desk time o)) → P (givenUpAt s (name desk time) .tables)
+    unfolding givenUpAmong yielded _⇒_⁏_
+    give-up-each put =
+        subst (λ (k : ℕ). P (givenUpAmong k s desk time .tables)) (sym head)
+        (go (stranger n desk or lacksThree n (length (s .places)) (length (s .rows)) (length (s .marks))) refl)
       where
         go : (one : Bool) → (stranger n desk or lacksThree n (length (s .places)) (length (s .rows)) (length (s .marks))) ≡ one
             → P (putBack n s desk time (yielded one (ownOf n s desk time []) time .own))
@@ -183,8 +218,11 @@ module _ (n : ℕ) (s : Tables) (desk time : ℕ) where
         go false e = put (below n desk (or-none _ _ e .0)) _ (give-up-left false)
 
 -- ---- every call keeps good tables good
-pub receive-good : (n : ℕ) (s : Tables) → Good n s → (desk time : ℕ) (rest out : List ℕ) → Good n (receivedAt n s desk time rest out .tables)
-receive-good n s g desk time rest out = receive-each n s desk time (Good n) g rest out (λ h o k. put-good n s desk time out o g h k)
+module _ (n : ℕ) (s : Tables) (g : Good n s) (who : Name) where
+  pub receive-good : (rest out : List ℕ) → Good n (receivedAt s who rest out .tables)
+  receive-good rest out =
+      receive-each n s (who .desk) (who .time) (g .head) (Good n) g rest out (λ h o k. put-good n s (who .desk) (who .time) out o g h k)
 
-pub give-up-good : (n : ℕ) (s : Tables) → Good n s → (desk time : ℕ) → Good n (givenUpAt n s desk time .tables)
-give-up-good n s g desk time = give-up-each n s desk time (Good n) g (λ h o k. put-good n s desk time [] o g h k)
+  pub give-up-good : Good n (givenUpAt s who .tables)
+  give-up-good =
+      give-up-each n s (who .desk) (who .time) (g .head) (Good n) g (λ h o k. put-good n s (who .desk) (who .time) [] o g h k)

@@ -27,7 +27,7 @@ use Rattle.style.specs.Store as S
 use Rattle.style.specs.Slots.{stored-length}
 use Rattle.desk.specs.declared.Shares.{Shares}
 use Rattle.desk.specs.Desk.{Own, After, Given, own, inUse, finish, wholeTaken, sampleOf, conflicts, six, usedUp, completed, joining, descriptionTaken, taken, received, givenUp}
-use Rattle.relay.specs.Relay.{ordered, yielded}
+use Rattle.memory.specs.Relay.{ordered, yielded}
 use Rattle.good.specs.Places.{Named, closed-free, closed-named}
 use Rattle.good.specs.Fair.{Passed}
 

@@ -1,29 +1,31 @@
 -- What every call keeps to, of any tables: a refusal leaves tables and output as they stood, except 10, which frees the place and marks
--- the time; and progress. Assumes nothing.
+-- the time; progress; and that tables whose head does not hold 1 to 8 refuse every call. Assumes nothing.
 use Prim.Native.Nat.{ℕ, zero, suc, _≤_, _<_}
 use native.Mathlib.Nat.{zero-lt-suc}
 use native.Mathlib.Omega.{arith}
 use mathlib.Core.Path.{_≡_, refl, sym, ap, _∙_}
-use mathlib.Core.Bool.{Bool}
+use mathlib.Core.Bool.{Bool, true}
 use mathlib.Core.Logic.{_⊎_, inl, inr}
 use mathlib.Core.List.{List, []}
 use lib.ListN.{length}
-use Rattle.laws.specs.Rows.{each, yes, eq}
+use Rattle.laws.specs.Rows.{_or_, each, yes, eq}
 use Rattle.paper.specs.Words.{numberOf}
 use Rattle.paper.specs.declared.Refusal.{Refusal}
 use Rattle.paper.specs.declared.Refusal.the-variants as R
 use Rattle.paper.specs.declared.Outcome.the-variants as O
 use Rattle.paper.specs.declared.Answer.{Answer}
+use Rattle.paper.specs.declared.Name.{Name}
 use Rattle.unit.specs.declared.Unit.the-variants as U
 use Rattle.unit.specs.declared.Reading.{Reading}
 use Rattle.unit.specs.Layout.{reading, readOf}
 use Rattle.sample.specs.Place.{closed}
 use Rattle.desk.specs.declared.Shares.{Shares}
 use Rattle.desk.specs.declared.GivenUp.the-variants as G
-use Rattle.desk.specs.Desk.{Own, After, Given, finish, taken, received, givenUp}
+use Rattle.desk.specs.Desk.{Own, After, Given, says, finish, taken, received, givenUp}
 use Rattle.desk.specs.Effects.{Effect, stays, effects, progress}
-use Rattle.relay.specs.Relay.{Tables, placesOf, ownOf, sharesOf, putBack, ordered, receivedAt, yielded, givenUpAt}
-use Rattle.relay.specs.Back.{put-same}
+use Rattle.memory.specs.Relay.{Tables, desksOf, placesOf, ownOf, sharesOf, putBack, improper, stranger, ordered, done, settled}
+use Rattle.memory.specs.Relay.{receivedAmong, receivedAt, yielded, released, returned, givenUpAmong, givenUpAt, lookedUpAmong, lookedUp}
+use Rattle.memory.specs.Back.{put-same}
 
 -- ---- the effect of a refusal
 ordered-effect : (one : Bool) (h : Shares) (s : Own) (desk time : ℕ) (rest : List ℕ) → Effect s time (ordered one h s desk time rest)
@@ -32,20 +34,25 @@ ordered-effect one h s desk time rest =
     each (Effect s time) _ _ _ (λ e. stays s time 0 time R.Desk (λ t. omega arith))
     (λ e. each (Effect s time) _ _ _ (λ e. stays s time 0 time R.Output (λ t. omega arith)) (λ e. effects h s desk time rest))
 
-module _ (n : ℕ) (s : Tables) (desk time : ℕ) (rest out : List ℕ) (r : Refusal) (e : receivedAt n s desk time rest out .answer .outcome ≡ O.Refused r) where
-  pub refused-stays : (numberOf r ≡ 10 → ⊥) → (receivedAt n s desk time rest out .tables ≡ s) × (receivedAt n s desk time rest out .out ≡ out)
-  unfolding receivedAt
+module _ (s : Tables) (who : Name) (rest out : List ℕ) (r : Refusal) (e : receivedAt s who rest out .answer .outcome ≡ O.Refused r) where
+  abbrev its : Own
+  its = ownOf (desksOf (s .marks)) s (who .desk) (who .time) out
+
+  pub refused-stays : (numberOf r ≡ 10 → ⊥) → (receivedAt s who rest out .tables ≡ s) × (receivedAt s who rest out .out ≡ out)
+  unfolding receivedAmong
   refused-stays t =
-      let x = ordered-effect _ (sharesOf n desk (placesOf n s)) (ownOf n s desk time out) desk time rest r e .1 t in
-      (ap (putBack n s desk time) x ∙ put-same n s desk time out, ap (λ (o : Own). o .out) x)
+      let n = desksOf (s .marks) in
+      let x = ordered-effect _ (sharesOf n (who .desk) (placesOf n s)) its (who .desk) (who .time) rest r e .1 t in
+      (ap (putBack n s (who .desk) (who .time)) x ∙ put-same n s (who .desk) (who .time) out, ap (λ (o : Own). o .out) x)
 
   pub refused-frees : numberOf r ≡ 10
-      → (receivedAt n s desk time rest out .tables ≡ putBack n s desk time (finish (ownOf n s desk time out) time closed out))
-      × (receivedAt n s desk time rest out .out ≡ out)
-  unfolding receivedAt
+      → (receivedAt s who rest out .tables ≡ putBack (desksOf (s .marks)) s (who .desk) (who .time) (finish its (who .time) closed out))
+      × (receivedAt s who rest out .out ≡ out)
+  unfolding receivedAmong
   refused-frees t =
-      let x = ordered-effect _ (sharesOf n desk (placesOf n s)) (ownOf n s desk time out) desk time rest r e .0 t in
-      (ap (putBack n s desk time) x, ap (λ (o : Own). o .out) x)
+      let n = desksOf (s .marks) in
+      let x = ordered-effect _ (sharesOf n (who .desk) (placesOf n s)) its (who .desk) (who .time) rest r e .0 t in
+      (ap (putBack n s (who .desk) (who .time)) x, ap (λ (o : Own). o .out) x)
 
 -- ---- give-up: refused, all stays; else the place is freed and the time marked
 abbrev Gives : Own → (time : ℕ) → Given → Type 0
@@ -60,15 +67,20 @@ yielded-gives one s time =
     clash : {A : Type 0} {r : Refusal} → G.Refused r ≡ G.Freed → A
     clash q = let k : _≡_ {A = ℕ} 0 1 = cc in absurd (omega arith)
 
-module _ (n : ℕ) (s : Tables) (desk time : ℕ) where
-  pub give-up-stays : (r : Refusal) → givenUpAt n s desk time .answer ≡ G.Refused r → givenUpAt n s desk time .tables ≡ s
-  unfolding givenUpAt
-  give-up-stays r e = ap (putBack n s desk time) (yielded-gives _ (ownOf n s desk time []) time .0 r e) ∙ put-same n s desk time []
+module _ (s : Tables) (who : Name) where
+  abbrev held : Own
+  held = ownOf (desksOf (s .marks)) s (who .desk) (who .time) []
 
-  pub give-up-frees : givenUpAt n s desk time .answer ≡ G.Freed
-      → givenUpAt n s desk time .tables ≡ putBack n s desk time (finish (ownOf n s desk time []) time closed [])
-  unfolding givenUpAt
-  give-up-frees e = ap (putBack n s desk time) (yielded-gives _ (ownOf n s desk time []) time .1 e)
+  pub give-up-stays : (r : Refusal) → givenUpAt s who .answer ≡ G.Refused r → givenUpAt s who .tables ≡ s
+  unfolding givenUpAmong
+  give-up-stays r e =
+      let n = desksOf (s .marks) in
+      ap (putBack n s (who .desk) (who .time)) (yielded-gives _ held (who .time) .0 r e) ∙ put-same n s (who .desk) (who .time) []
+
+  pub give-up-frees : givenUpAt s who .answer ≡ G.Freed
+      → givenUpAt s who .tables ≡ putBack (desksOf (s .marks)) s (who .desk) (who .time) (finish held (who .time) closed [])
+  unfolding givenUpAmong
+  give-up-frees e = ap (putBack (desksOf (s .marks)) s (who .desk) (who .time)) (yielded-gives _ held (who .time) .1 e)
 
 -- ---- progress: a call uses at most the rest, and none of it only at the end and for 1 and 2
 pub record Progress (rest : List ℕ) (a : Answer) : Type 0 where
@@ -100,6 +112,32 @@ ordered-progress one h s desk time rest =
     P : After → Type 0
     P a = Progress rest (a .answer)
 
-pub receive-progress : (n : ℕ) (s : Tables) (desk time : ℕ) (rest out : List ℕ) → Progress rest (receivedAt n s desk time rest out .answer)
-unfolding receivedAt
-receive-progress n s desk time rest out = ordered-progress _ (sharesOf n desk (placesOf n s)) (ownOf n s desk time out) desk time rest
+pub receive-progress : (s : Tables) (who : Name) (rest out : List ℕ) → Progress rest (receivedAt s who rest out .answer)
+unfolding receivedAmong
+receive-progress s who rest out =
+    let n = desksOf (s .marks) in
+    ordered-progress _ (sharesOf n (who .desk) (placesOf n s)) (ownOf n s (who .desk) (who .time) out) (who .desk) (who .time) rest
+
+-- ---- no relay: where the head of the marks does not hold 1 to 8, every call of every desk is refusal 1 and leaves all as it stood
+module _ (s : Tables) (none : improper (desksOf (s .marks)) ≡ true) where
+  estranged : (desk : ℕ) (more : Bool) → (stranger (desksOf (s .marks)) desk or more) ≡ true
+  unfolding stranger
+  estranged desk more = sym (yes _ _ (sym (yes _ _ none refl)) refl)
+
+  pub no-relay-receive : (who : Name) (rest out : List ℕ) → receivedAt s who rest out ≡ done s out (says 0 (who .time) (O.Refused R.Desk))
+  unfolding receivedAmong ordered
+  no-relay-receive who rest out =
+      let n = desksOf (s .marks) in
+      ap (settled n s (who .desk) (who .time)) (sym (yes _ _ (estranged (who .desk) _) refl))
+      ∙ ap (λ (t : Tables). done t out (says 0 (who .time) (O.Refused R.Desk))) (put-same n s (who .desk) (who .time) out)
+
+  pub no-relay-give-up : (who : Name) → givenUpAt s who ≡ released s (G.Refused R.Desk)
+  unfolding givenUpAmong yielded
+  no-relay-give-up who =
+      let n = desksOf (s .marks) in
+      ap (returned n s (who .desk) (who .time)) (sym (yes _ _ (estranged (who .desk) _) refl))
+      ∙ ap (λ (t : Tables). released t (G.Refused R.Desk)) (put-same n s (who .desk) (who .time) [])
+
+  pub no-relay-lookup : (desk index : ℕ) (book : List ℕ) → lookedUp (s .marks) (s .stores) desk index book ≡ []
+  unfolding lookedUpAmong
+  no-relay-lookup desk index book = sym (yes _ _ (estranged desk _) refl)

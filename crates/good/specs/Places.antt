@@ -14,8 +14,8 @@ use Rattle.laws.specs.Rows.{each, eq, ne, eq-of, lt-of, ge-of, and-is, and-of}
 use Rattle.laws.specs.Table.{bit, seek, first, count, seek-hit, seek-first, seek-none, count-zero, count-set, first-set-here, first-set-other}
 use Rattle.sample.specs.declared.Place.{Place}
 use Rattle.sample.specs.Place.{bare, closed}
-use Rattle.table.specs.Table.{vacant, mine, isAt}
-use Rattle.relay.specs.Relay.{openAt, standsAt, placed}
+use Rattle.memory.specs.Table.{vacant, mine, isAt}
+use Rattle.memory.specs.Relay.{openAt, standsAt, placed}
 
 -- ---- where a place is open, it is the desk's sample of that time; and a named one is closed otherwise
 abbrev pub Its : (d t : ℕ) → Place → Type 0

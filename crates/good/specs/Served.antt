@@ -13,6 +13,7 @@ use Rattle.paper.specs.Limits.{sampleMost, ownPlaces}
 use Rattle.paper.specs.Words.{numberOf, kindOf}
 use Rattle.paper.specs.declared.Refusal.{Refusal}
 use Rattle.paper.specs.declared.Refusal.the-variants as R
+use Rattle.paper.specs.declared.Name.{Name}
 use Rattle.paper.specs.declared.Outcome.{Outcome}
 use Rattle.paper.specs.declared.Outcome.the-variants as O
 use Rattle.unit.specs.declared.Unit.{Unit}
@@ -25,8 +26,8 @@ use Rattle.style.specs.Store as S
 use Rattle.desk.specs.declared.Shares.{Shares}
 use Rattle.desk.specs.Desk.{Own, After, wholeTaken, six, usedUp, completed, joining, descriptionTaken, taken, received}
 use Rattle.desk.specs.Effects.{asksPart, asks}
-use Rattle.table.specs.Table.{mine}
-use Rattle.relay.specs.Relay.{Tables, placesOf, ownOf, sharesOf, stranger, lacking, ordered, receivedAt}
+use Rattle.memory.specs.Table.{mine}
+use Rattle.memory.specs.Relay.{Tables, desksOf, placesOf, ownOf, sharesOf, stranger, lacking, ordered, receivedAmong, receivedAt}
 use Rattle.good.specs.Fair.{Passed}
 
 -- neither 8 nor 9
@@ -91,18 +92,20 @@ taken-served h s desk time used rest (Description x) k w =
     N a = Serves (a .answer .outcome)
 
 -- a call that does not reach the test of the shares, or that they let through, is answered neither 8 nor 9
-pub let-through : (n : ℕ) (s : Tables) (desk time : ℕ) (rest out : List ℕ)
-    → ((stranger n desk or lacking n s) ≡ false → (length out <? sampleMost) ≡ false
-    → asks (ownOf n s desk time out) desk time rest (readOf rest .unit) ≡ true → Passed (sharesOf n desk (placesOf n s)))
-    → Serves (receivedAt n s desk time rest out .answer .outcome)
-unfolding receivedAt ordered received
-let-through n s desk time rest out k =
+pub let-through : (s : Tables) (who : Name) (rest out : List ℕ) → let n = desksOf (s .marks) in
+    ((stranger n (who .desk) or lacking n s) ≡ false → (length out <? sampleMost) ≡ false
+    → asks (ownOf n s (who .desk) (who .time) out) (who .desk) (who .time) rest (readOf rest .unit) ≡ true
+    → Passed (sharesOf n (who .desk) (placesOf n s)))
+    → Serves (receivedAt s who rest out .answer .outcome)
+unfolding receivedAmong ordered received
+let-through s who rest out k =
+    let n = desksOf (s .marks) in
     each Served _ _ _ (λ e. other R.Desk (omega arith))
     (λ a. each Served _ _ _ (λ e. other R.Output (omega arith))
     (λ b.
-    taken-served (sharesOf n desk (placesOf n s)) (ownOf n s desk time out) desk time (readOf rest .used) rest (readOf rest .unit) (k a b)
-    (reads-known rest)))
+    taken-served (sharesOf n (who .desk) (placesOf n s)) (ownOf n s (who .desk) (who .time) out) (who .desk) (who .time)
+    (readOf rest .used) rest (readOf rest .unit) (k a b) (reads-known rest)))
 
-pub served : (n : ℕ) (s : Tables) (desk time : ℕ) (rest out : List ℕ) → count (mine desk) (placesOf n s) < ownPlaces
-    → Serves (receivedAt n s desk time rest out .answer .outcome)
-served n s desk time rest out k = let-through n s desk time rest out (λ a b c. record { below = omega arith; share = inl k })
+pub served : (s : Tables) (who : Name) (rest out : List ℕ) → count (mine (who .desk)) (placesOf (desksOf (s .marks)) s) < ownPlaces
+    → Serves (receivedAt s who rest out .answer .outcome)
+served s who rest out k = let-through s who rest out (λ a b c. record { below = omega arith; share = inl k })

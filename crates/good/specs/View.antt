@@ -1,26 +1,30 @@
 -- What a desk sees of good tables, and what a call does to it: the view of the desk that calls becomes what its own things say, that of
 -- every other desk stays, and so does all that lies beyond what n desks need. Assumes nothing.
-use Prim.Native.Nat.{ℕ, zero, suc, _+_, _-_, _*_, _<_}
+use Prim.Native.Nat.{ℕ, _+_, _-_, _<_}
 use native.Mathlib.Omega.{arith}
 use mathlib.Core.Path.{_≡_, refl, sym, ap, _∙_}
 use mathlib.Core.Bool.{Bool, true, false}
 use mathlib.Core.Logic.{_≢_}
 use mathlib.Core.List.{List, []}
-use lib.ListN.{length, drop, replicate, length-replicate}
+use lib.ListN.{drop, replicate, length-replicate}
 use lib.Seq.{drop-at}
 use Rattle.laws.specs.Rows.{_⇒_⁏_, _=?_, each, yes, no, ge, eq, eq-of, ne-of}
-use Rattle.laws.specs.Region.{cell-same, cell-other, cells-beyond, drop-sets-past}
+use Rattle.laws.specs.Region.{drop-sets-past}
 use Rattle.laws.specs.Table.{bit, count}
-use Rattle.paper.specs.Limits.{finishedMost, placesEach, marksEach, storeSize, places}
+use Rattle.paper.specs.Limits.{places, rowsNeed, marksNeed, storesNeed}
+use Rattle.paper.specs.declared.Name.{Name}
 use Rattle.sample.specs.declared.Place.{Place}
 use Rattle.sample.specs.Place.{closed}
 use Rattle.style.specs.Shown.{shown}
 use Rattle.desk.specs.declared.Shares.{Shares}
 use Rattle.desk.specs.Desk.{Own, After, Given, own, newestOf}
-use Rattle.table.specs.Table.{mine}
-use Rattle.relay.specs.Relay.{Tables, placesOf, rowOf, marksOf, storeOf, openAt, sharesOf, placed, putBack, short, Prepared, freshMarks, setUp, ordered, Done, settled, receivedAt, yielded, Released, returned, givenUpAt, lookedUp}
+use Rattle.memory.specs.Table.{mine}
+use Rattle.memory.specs.Relay.{Tables, placesOf, rowOf, marksOf, storeOf, openAt, sharesOf, placed, putBack, short, Prepared}
+use Rattle.memory.specs.Relay.{freshMarks, setUp, ordered, Done, settled, receivedAmong, receivedAt, yielded, Released, returned}
+use Rattle.memory.specs.Relay.{givenUpAmong, givenUpAt, lookedUpAmong, lookedUp}
 use Rattle.good.specs.Places.{Moved}
-use Rattle.good.specs.Good.{Good, no-stranger, no-lack, no-lack-three, Left, Fits, fits, receive-left, give-up-left, receive-each, give-up-each}
+use Rattle.good.specs.Good.{name, Good, no-stranger, no-lack, no-lack-three, fresh-length, Left, Fits, fits}
+use Rattle.good.specs.Good.{receive-left, give-up-left, receive-each, give-up-each}
 
 -- its open sample of each time (a closed place where there is none), how many are open, its row of finished times, marks and store
 pub record View : Type 0 where
@@ -39,8 +43,8 @@ view n desk s = record {
   store = storeOf desk (s .stores);
 }
 
-pub same-view : (v w : View) → ((time : ℕ) → v .at time ≡ w .at time) → v .opens ≡ w .opens → v .row ≡ w .row → v .marks ≡ w .marks → v .store ≡ w .store
-    → v ≡ w
+pub same-view : (v w : View) → ((time : ℕ) → v .at time ≡ w .at time) → v .opens ≡ w .opens → v .row ≡ w .row → v .marks ≡ w .marks
+    → v .store ≡ w .store → v ≡ w
 same-view v w a o r m s = λ i. record { at = λ time. a time i; opens = o i; row = r i; marks = m i; store = s i }
 
 -- the desk's own things, by its view; and its view when a call has left o
@@ -58,10 +62,10 @@ seenAfter v time o = record {
 
 -- what lies beyond what n desks need is the same
 pub record Beyond (n : ℕ) (s r : Tables) : Type 0 where
-  pub places : drop (placesEach * n) (r .places) ≡ drop (placesEach * n) (s .places)
-  pub rows : drop (finishedMost * n) (r .rows) ≡ drop (finishedMost * n) (s .rows)
-  pub marks : drop (marksEach * n) (r .marks) ≡ drop (marksEach * n) (s .marks)
-  pub stores : drop (storeSize * n) (r .stores) ≡ drop (storeSize * n) (s .stores)
+  pub places : drop (places n) (r .places) ≡ drop (places n) (s .places)
+  pub rows : drop (rowsNeed n) (r .rows) ≡ drop (rowsNeed n) (s .rows)
+  pub marks : drop (marksNeed n) (r .marks) ≡ drop (marksNeed n) (s .marks)
+  pub stores : drop (storesNeed n) (r .stores) ≡ drop (storesNeed n) (s .stores)
 
 unchanged : (n : ℕ) (s : Tables) → Beyond n s s
 unchanged n s = record { places = refl; rows = refl; marks = refl; stores = refl }
@@ -80,46 +84,42 @@ module _ (n : ℕ) (s : Tables) (desk time : ℕ) (out : List ℕ) (o : Own) (g 
       (λ u. each (λ (p : Place). openAt desk u (placesOf n (putBack n s desk time o)) ≡ p) (u =? time) (o .place) (openAt desk u (placesOf n s))
       (λ e. rw (eq-of u time e) (m .own-open (g .fair .once desk time)))
       (λ e. m .other-open desk u (λ a. ne-of _ _ e)))
-      (omega (arith, m .own-mine)) (cell-same finishedMost n desk (s .rows) (g .rows) h (o .row) (f .row))
-      (cell-same marksEach n desk (s .marks) (g .marks) h (o .marks) (f .marks))
-      (cell-same storeSize n desk (s .stores) (g .stores) h (o .store) (f .store))
+      (omega (arith, m .own-mine)) (f .rows .same) (f .marks .same) (f .stores .same)
 
   put-other : (e : ℕ) → e ≢ desk → view n e (putBack n s desk time o) ≡ view n e s
   put-other e q =
-      same-view _ _ (λ u. m .other-open e u (λ a b. q a)) (m .other-mine e q)
-      (cell-other finishedMost n desk (s .rows) (g .rows) h (o .row) (f .row) e q)
-      (cell-other marksEach n desk (s .marks) (g .marks) h (o .marks) (f .marks) e q)
-      (cell-other storeSize n desk (s .stores) (g .stores) h (o .store) (f .store) e q)
+      same-view _ _ (λ u. m .other-open e u (λ a b. q a)) (m .other-mine e q) (f .rows .other e q) (f .marks .other e q) (f .stores .other e q)
 
   put-beyond : Beyond n s (putBack n s desk time o)
   put-beyond = record {
     places = drop-at (placed desk time (o .place) (placesOf n s)) (drop (places n) (s .places)) (places n) (f .places);
-    rows = cells-beyond finishedMost n desk (s .rows) (g .rows) h (o .row) (f .row);
-    marks = cells-beyond marksEach n desk (s .marks) (g .marks) h (o .marks) (f .marks);
-    stores = cells-beyond storeSize n desk (s .stores) (g .stores) h (o .store) (f .store);
+    rows = f .rows .beyond;
+    marks = f .marks .beyond;
+    stores = f .stores .beyond;
   }
 
 -- ---- another desk's view, and what lies beyond, stay
-module _ (n : ℕ) (s : Tables) (g : Good n s) (desk time : ℕ) where
+module _ (n : ℕ) (s : Tables) (g : Good n s) (who : Name) where
   module _ (rest out : List ℕ) where
-    pub receive-others : (e : ℕ) → e ≢ desk → view n e (receivedAt n s desk time rest out .tables) ≡ view n e s
+    pub receive-others : (e : ℕ) → e ≢ who .desk → view n e (receivedAt s who rest out .tables) ≡ view n e s
     receive-others e q =
-        receive-each n s desk time (λ (r : Tables). view n e r ≡ view n e s) refl rest out (λ h o k. put-other n s desk time out o g h k e q)
+        receive-each n s (who .desk) (who .time) (g .head) (λ (r : Tables). view n e r ≡ view n e s) refl rest out
+        (λ h o k. put-other n s (who .desk) (who .time) out o g h k e q)
 
-    pub receive-beyond : Beyond n s (receivedAt n s desk time rest out .tables)
-    receive-beyond = receive-each n s desk time (Beyond n s) (unchanged n s) rest out (λ h o k. put-beyond n s desk time out o g h k)
+    pub receive-beyond : Beyond n s (receivedAt s who rest out .tables)
+    receive-beyond =
+        receive-each n s (who .desk) (who .time) (g .head) (Beyond n s) (unchanged n s) rest out
+        (λ h o k. put-beyond n s (who .desk) (who .time) out o g h k)
 
-  pub give-up-others : (e : ℕ) → e ≢ desk → view n e (givenUpAt n s desk time .tables) ≡ view n e s
+  pub give-up-others : (e : ℕ) → e ≢ who .desk → view n e (givenUpAt s who .tables) ≡ view n e s
   give-up-others e q =
-      give-up-each n s desk time (λ (r : Tables). view n e r ≡ view n e s) refl (λ h o k. put-other n s desk time [] o g h k e q)
+      give-up-each n s (who .desk) (who .time) (g .head) (λ (r : Tables). view n e r ≡ view n e s) refl
+      (λ h o k. put-other n s (who .desk) (who .time) [] o g h k e q)
 
-  pub give-up-beyond : Beyond n s (givenUpAt n s desk time .tables)
-  give-up-beyond = give-up-each n s desk time (Beyond n s) (unchanged n s) (λ h o k. put-beyond n s desk time [] o g h k)
-
-pub fresh-length : (n : ℕ) → length (freshMarks n) ≡ marksEach * n
-unfolding freshMarks
-fresh-length zero = refl
-fresh-length (suc n) = omega (arith, fresh-length n)
+  pub give-up-beyond : Beyond n s (givenUpAt s who .tables)
+  give-up-beyond =
+      give-up-each n s (who .desk) (who .time) (g .head) (Beyond n s) (unchanged n s)
+      (λ h o k. put-beyond n s (who .desk) (who .time) [] o g h k)
 
 pub set-up-beyond : (n : ℕ) (s : Tables) → Beyond n s (setUp n s .tables)
 unfolding setUp
@@ -127,9 +127,11 @@ set-up-beyond n s =
     each (λ (m : Prepared). Beyond n s (m .tables)) _ _ _ (λ e. unchanged n s)
     (λ e. record {
       places = drop-sets-past (replicate (places n) closed) (s .places) 0 (places n) (omega (arith, length-replicate (places n) closed));
-      rows = drop-sets-past (replicate (finishedMost * n) 0) (s .rows) 0 (finishedMost * n) (omega (arith, length-replicate {A = ℕ} (finishedMost * n) 0));
-      marks = drop-sets-past (freshMarks n) (s .marks) 0 (marksEach * n) (omega (arith, fresh-length n));
-      stores = drop-sets-past (replicate (storeSize * n) 0) (s .stores) 0 (storeSize * n) (omega (arith, length-replicate {A = ℕ} (storeSize * n) 0));
+      rows = drop-sets-past (replicate (rowsNeed n) 0) (s .rows) 0 (rowsNeed n) (omega (arith, length-replicate {A = ℕ} (rowsNeed n) 0));
+      marks = drop-sets-past (freshMarks n) (s .marks) 0 (marksNeed n) (omega (arith, fresh-length n));
+      stores =
+          drop-sets-past (replicate (storesNeed n) 0) (s .stores) 0 (storesNeed n)
+          (omega (arith, length-replicate {A = ℕ} (storesNeed n) 0));
     })
 
 -- ---- the desk's own call: all that it answers and leaves is settled by its view, and by what the shares say
@@ -143,35 +145,42 @@ givesUp v time = yielded false (ownIn v time []) time
 
 module _ (n : ℕ) (s : Tables) (g : Good n s) (desk : ℕ) (h : desk < n) where
   module _ (time : ℕ) (rest out : List ℕ) where
-    pub receive-is : receivedAt n s desk time rest out ≡ settled n s desk time (receives (sharesOf n desk (placesOf n s)) (view n desk s) desk time rest out)
-    unfolding receivedAt
+    pub receive-is : receivedAt s (name desk time) rest out
+        ≡ settled n s desk time (receives (sharesOf n desk (placesOf n s)) (view n desk s) desk time rest out)
+    unfolding receivedAmong
     receive-is =
-        ap (λ (one : Bool). settled n s desk time (ordered one (sharesOf n desk (placesOf n s)) (ownIn (view n desk s) time out) desk time rest))
+        ap (λ (k : ℕ). receivedAmong k s desk time rest out) (g .head)
+        ∙ ap
+        (λ (one : Bool). settled n s desk time (ordered one (sharesOf n desk (placesOf n s)) (ownIn (view n desk s) time out) desk time rest))
         (sym (no _ true (no-stranger n desk s g h) (sym (no-lack n s g))))
 
-    pub receive-own : view n desk (receivedAt n s desk time rest out .tables)
+    pub receive-own : view n desk (receivedAt s (name desk time) rest out .tables)
         ≡ seenAfter (view n desk s) time (receives (sharesOf n desk (placesOf n s)) (view n desk s) desk time rest out .own)
     receive-own =
         ap (λ (r : Done). view n desk (r .tables)) receive-is
         ∙ put-own n s desk time out _ g h (receive-left n s desk time false rest out)
 
     -- the sample as the call leaves it stands in the table: what is kept is never lost for want of a place
-    pub receive-stands : openAt desk time (placesOf n (receivedAt n s desk time rest out .tables))
+    pub receive-stands : openAt desk time (placesOf n (receivedAt s (name desk time) rest out .tables))
         ≡ receives (sharesOf n desk (placesOf n s)) (view n desk s) desk time rest out .own .place
     receive-stands = ap (λ (v : View). v .at time) receive-own ∙ sym (yes _ _ (eq time time refl) refl)
 
-  pub give-up-is : (time : ℕ) → givenUpAt n s desk time ≡ returned n s desk time (givesUp (view n desk s) time)
-  unfolding givenUpAt
+  pub give-up-is : (time : ℕ) → givenUpAt s (name desk time) ≡ returned n s desk time (givesUp (view n desk s) time)
+  unfolding givenUpAmong
   give-up-is time =
-      ap (λ (one : Bool). returned n s desk time (yielded one (ownIn (view n desk s) time []) time))
+      ap (λ (k : ℕ). givenUpAmong k s desk time) (g .head)
+      ∙ ap (λ (one : Bool). returned n s desk time (yielded one (ownIn (view n desk s) time []) time))
       (sym (no _ true (no-stranger n desk s g h) (sym (no-lack-three n s g))))
 
-  pub give-up-own : (time : ℕ) → view n desk (givenUpAt n s desk time .tables) ≡ seenAfter (view n desk s) time (givesUp (view n desk s) time .own)
+  pub give-up-own : (time : ℕ)
+      → view n desk (givenUpAt s (name desk time) .tables) ≡ seenAfter (view n desk s) time (givesUp (view n desk s) time .own)
   give-up-own time =
-      ap (λ (r : Released). view n desk (r .tables)) (give-up-is time) ∙ put-own n s desk time [] _ g h (give-up-left n s desk time false)
+      ap (λ (r : Released). view n desk (r .tables)) (give-up-is time)
+      ∙ put-own n s desk time [] _ g h (give-up-left n s desk time false)
 
-  pub lookup-is : (index : ℕ) (book : List ℕ) → lookedUp n (s .marks) (s .stores) desk index book
+  pub lookup-is : (index : ℕ) (book : List ℕ) → lookedUp (s .marks) (s .stores) desk index book
       ≡ shown book (view n desk s .store) (newestOf (view n desk s .marks)) index
-  unfolding lookedUp short
+  unfolding lookedUpAmong short
   lookup-is index book =
-      sym (no _ [] (sym (no _ true (no-stranger n desk s g h) (no _ true (ge _ _ (g .marks)) (sym (ge _ _ (g .stores)))))) refl)
+      ap (λ (k : ℕ). lookedUpAmong k (s .marks) (s .stores) desk index book) (g .head)
+      ∙ sym (no _ [] (sym (no _ true (no-stranger n desk s g h) (no _ true (ge _ _ (g .marks)) (sym (ge _ _ (g .stores)))))) refl)

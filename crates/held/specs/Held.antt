@@ -3,7 +3,7 @@ use mathlib.Core.List.{List}
 use Rattle.paper.specs.declared.Answer.{Answer}
 use Rattle.sample.specs.declared.Place.{Place}
 use Rattle.desk.specs.declared.GivenUp.{GivenUp}
-use Rattle.relay.specs.declared.Started.{Started}
+use Rattle.memory.specs.declared.Started.{Started}
 use Rattle.held.specs.declared.Begun.{Begun}
 use Rattle.held.specs.declared.Called.{Called}
 use Rattle.held.specs.declared.Yielded.{Yielded}

@@ -1,15 +1,15 @@
-// The relay over a table by value, for callers that keep it in a local: a function may be checked for its borrows only where no
-// reference to places is named, so the three that name one stand here.
+// The relay over a table by value, for callers that keep it in a local: a covered function may name no reference to places, so the three
+// calls that lend the table are walked by hand here, and `hall` and `list` stand on them.
 use desk::GivenUp;
+use memory::Started;
 use paper::Answer;
+use paper::Name;
 use paper::limits::PLACES_MOST;
-use relay::Relay;
-use relay::Started;
 use sample::Place;
 ghost use mathlib.Core.Path.{_≡_};
 ghost use mathlib.Core.List.{List};
 ghost use Prim.Native.Nat.{ℕ};
-ghost use Rattle.relay.specs.Relay.{tables, prepared, setUp, done, receivedAt, released, givenUpAt};
+ghost use Rattle.memory.specs.Relay.{tables, prepared, setUp, done, receivedAt, released, givenUpAt};
 ghost use Rattle.held.specs.Held.{begun, called, yielded};
 
 pub struct Begun {
@@ -61,39 +61,35 @@ pub fn set_up(
 }
 
 pub fn receive(
-    relay: Relay,
     places: [Place; PLACES_MOST],
     rows: &mut [u32],
     marks: &mut [u32],
     stores: &mut [u8],
-    desk: usize,
-    time: u32,
+    who: Name,
     rest: &[u8],
     out: &mut [u8],
 ) -> Called
     ensures { λ r. ⌜ done (tables (r .places) (now (rows .exit)) (now (marks .exit)) (now (stores .exit)))
         (now (out .exit)) (r .answer)
-        ≡ receivedAt (relay .desks) (tables places (now (rows .entry)) (now (marks .entry)) (now (stores .entry)))
-        desk time (now (rest .entry)) (now (out .entry)) ⌝ }
+        ≡ receivedAt (tables places (now (rows .entry)) (now (marks .entry)) (now (stores .entry))) who
+        (now (rest .entry)) (now (out .entry)) ⌝ }
 {
     let mut t = places;
-    let answer = relay::receive(relay, &mut t, rows, marks, stores, desk, time, rest, out);
+    let answer = relay::receive(&mut t, rows, marks, stores, who, rest, out);
     called_of(t, answer)
 }
 
 pub fn give_up(
-    relay: Relay,
     places: [Place; PLACES_MOST],
     rows: &mut [u32],
     marks: &mut [u32],
-    desk: usize,
-    time: u32,
+    who: Name,
 ) -> Yielded
     ensures { λ r. ⌜ ((stores : List ℕ)
         → released (tables (r .places) (now (rows .exit)) (now (marks .exit)) stores) (r .answer)
-        ≡ givenUpAt (relay .desks) (tables places (now (rows .entry)) (now (marks .entry)) stores) desk time) ⌝ }
+        ≡ givenUpAt (tables places (now (rows .entry)) (now (marks .entry)) stores) who) ⌝ }
 {
     let mut t = places;
-    let answer = relay::give_up(relay, &mut t, rows, marks, desk, time);
+    let answer = relay::give_up(&mut t, rows, marks, who);
     yielded_of(t, answer)
 }

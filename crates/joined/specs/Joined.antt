@@ -9,7 +9,8 @@ use Rattle.unit.specs.Layout.{readOf}
 use Rattle.sample.specs.declared.Place.{Place}
 use Rattle.sample.specs.Place.{closed}
 use Rattle.desk.specs.Desk.{Own}
-use Rattle.relay.specs.Relay.{Tables, placesOf, sharesOf, ready, setUp, Done, Released}
+use Rattle.memory.specs.declared.Started.the-variants.{Ready}
+use Rattle.memory.specs.Relay.{Tables, placesOf, sharesOf, setUp, Done, Released}
 use Rattle.good.specs.Good.{Good, set-up-good}
 use Rattle.good.specs.View.{View, view, ownIn, seenAfter, receives, givesUp, receive-is, receive-own, give-up-is, give-up-own}
 use Rattle.good.specs.Fresh.{freshView, set-up-view}
@@ -36,16 +37,16 @@ turned-page v L y time p E h t = go (t =? time) refl
 module _ (n : ℕ) (s : Tables) (g : Good n s) where
   -- one call of a desk below n: what it got is what the ledger says, and the desk's places tally with it after the call
   own-call : (c : Call) → caller c < n → (L : Ledger) → Tally (view n (caller c) s) L
-      → SaysCall L c (got n s c) × Tally (view n (caller c) (next n s c)) (ledgerAfter L c (got n s c))
+      → SaysCall L c (got s c) × Tally (view n (caller c) (next s c)) (ledgerAfter L c (got s c))
   own-call (receive desk at rest out) h L y =
       let v = view n desk s in
       let a = receives (sharesOf n desk (placesOf n s)) v desk at rest out in
       let r = receive-right (sharesOf n desk (placesOf n s)) (ownIn v at out) desk at rest (L at) (y at) in
       let c = receive desk at rest out in
-      let q : answered (a .answer) (a .own .out) ≡ got n s c =
+      let q : answered (a .answer) (a .own .out) ≡ got s c =
       sym (ap (λ (x : Done). answered (x .answer) (x .out)) (receive-is n s g desk h at rest out)) in (
         subst (SaysCall L c) q (r .0),
-        subst (λ (w : View). Tally w (ledgerAfter L c (got n s c))) (sym (receive-own n s g desk h at rest out))
+        subst (λ (w : View). Tally w (ledgerAfter L c (got s c))) (sym (receive-own n s g desk h at rest out))
             (subst (λ (x : Got). Tally (seenAfter v at (a .own)) (ledgerAfter L c x)) q
             (turned-page v L y at (a .own .place) (λ t. enteredBy (L t) rest (readOf rest .unit) (a .answer .outcome)) (r .1))),
       )
@@ -54,33 +55,33 @@ module _ (n : ℕ) (s : Tables) (g : Good n s) where
       let a = givesUp v at in
       let r = give-up-right (sharesOf n desk (placesOf n s)) (ownIn v at []) desk at [] (L at) (y at) in
       let c = give-up desk at in
-      let q : released (a .answer) ≡ got n s c =
+      let q : released (a .answer) ≡ got s c =
       sym (ap (λ (x : Released). released (x .answer)) (give-up-is n s g desk h at)) in (
         tt,
-        subst (λ (w : View). Tally w (ledgerAfter L c (got n s c))) (sym (give-up-own n s g desk h at))
+        subst (λ (w : View). Tally w (ledgerAfter L c (got s c))) (sym (give-up-own n s g desk h at))
             (subst (λ (x : Got). Tally (seenAfter v at (a .own)) (ledgerAfter L c x)) q
             (turned-page v L y at (a .own .place) (λ t. givenUpBy (L t) (a .answer)) r)),
       )
   own-call (lookup desk index book) h L y = (tt, y)
 
 module _ (n d : ℕ) (h : d < n) where
-  all-say : (xs : List Call) (s : Tables) → Good n s → (L : Ledger) → Tally (view n d s) L → AllSay L (only d xs) (to d (run n s xs))
+  all-say : (xs : List Call) (s : Tables) → Good n s → (L : Ledger) → Tally (view n d s) L → AllSay L (only d xs) (to d (run s xs))
   unfolding _⇒_⁏_
   all-say [] s g L y = tt
-  all-say (c ∷ cs) s g L y = go (caller c =? d) refl (all-say cs (next n s c) (next-good n s g c))
+  all-say (c ∷ cs) s g L y = go (caller c =? d) refl (all-say cs (next s c) (next-good n s g c))
     where
       go : (b : Bool) → (caller c =? d) ≡ b
-          → ((M : Ledger) → Tally (view n d (next n s c)) M → AllSay M (only d cs) (to d (run n (next n s c) cs)))
-          → AllSay L (b ⇒ c ∷ only d cs ⁏ only d cs) (b ⇒ got n s c ∷ to d (run n (next n s c) cs) ⁏ to d (run n (next n s c) cs))
+          → ((M : Ledger) → Tally (view n d (next s c)) M → AllSay M (only d cs) (to d (run (next s c) cs)))
+          → AllSay L (b ⇒ c ∷ only d cs ⁏ only d cs) (b ⇒ got s c ∷ to d (run (next s c) cs) ⁏ to d (run (next s c) cs))
       go true e ih =
           let i : caller c ≡ d = eq-of _ _ e in
           let o = own-call n s g c (subst (λ (k : ℕ). k < n) (sym i) h) L (subst (λ (k : ℕ). Tally (view n k s) L) (sym i) y) in
-          (o .0, ih (ledgerAfter L c (got n s c)) (subst (λ (k : ℕ). Tally (view n k (next n s c)) (ledgerAfter L c (got n s c))) i (o .1)))
+          (o .0, ih (ledgerAfter L c (got s c)) (subst (λ (k : ℕ). Tally (view n k (next s c)) (ledgerAfter L c (got s c))) i (o .1)))
       go false e ih = ih L (subst (λ (w : View). Tally w L) (sym (next-other n s g c d (ne-of _ _ e))) y)
 
 -- In every run from set-up, and for every desk below n.
-pub every-sender : (n d : ℕ) → d < n → (s : Tables) → setUp n s .answer ≡ ready n → (xs : List Call)
-    → AllSay blankLedger (only d xs) (to d (run n (setUp n s .tables) xs))
+pub every-sender : (n d : ℕ) → d < n → (s : Tables) → setUp n s .answer ≡ Ready → (xs : List Call)
+    → AllSay blankLedger (only d xs) (to d (run (setUp n s .tables) xs))
 every-sender n d h s e xs =
     all-say n d h xs (setUp n s .tables) (set-up-good n s e) blankLedger
     (subst (λ (v : View). Tally v blankLedger) (sym (set-up-view n d s e h)) (λ t. closed-tallies))

@@ -32,7 +32,7 @@ use Rattle.style.specs.Store.{noted}
 use Rattle.style.specs.Store as S
 use Rattle.desk.specs.declared.Shares.{Shares}
 use Rattle.desk.specs.Desk.{Own, After, Given, refuse, facts, wholeTaken, sampleOf, conflicts, completed, joining, descriptionTaken, taken, received, givenUp}
-use Rattle.relay.specs.Relay.{ordered as in-turn, yielded}
+use Rattle.memory.specs.Relay.{ordered as in-turn, yielded}
 use Rattle.joined.specs.Ledger.{Entry, Parts, adding, entered, enteredBy, givenUpBy, isEntered, enteredPiece, inThisOrder, different, Complete, Tell, KeptSays, JoinedSays, SaysPart, NoPart, SaysUnit}
 use Rattle.joined.specs.Tallies.{Tallies, closed-tallies, sample-tallies, missing-different, none-missing, pieces-in-order, total-stays, sdur-stays, not-entered, kept-tallies}
 

@@ -15,8 +15,8 @@ use Rattle.paper.specs.declared.Outcome.{Outcome}
 use Rattle.paper.specs.declared.Outcome.the-variants as O
 use Rattle.paper.specs.declared.Answer.{Answer}
 use Rattle.unit.specs.Reads.{reads-uses}
-use Rattle.relay.specs.Relay.{Tables, Done, placesOf, ownOf, sharesOf}
-use Rattle.good.specs.Good.{Good, receive-good}
+use Rattle.memory.specs.Relay.{Tables, Done, placesOf, ownOf, sharesOf}
+use Rattle.good.specs.Good.{name, Good, receive-good}
 use Rattle.lines.specs.Digits.{length-digits}
 use Rattle.lines.specs.Line.{outcomeText, lineOf}
 use Rattle.lines.specs.Typed.{page, typed, typed-front}
@@ -107,7 +107,8 @@ lines-most (suc k) s time at rest g t p =
     let u = length-drop (called s time rest .answer .used) rest in
     line-then at time rest _ (called s time rest) d t p l
     (lines-most k (called s time rest .tables) (called s time rest .answer .next) (at + called s time rest .answer .used)
-    (drop (called s time rest .answer .used) rest) (receive-good 1 s g 0 time rest (replicate sampleMost 0)) (d .next) (omega (arith, d .most))))
+    (drop (called s time rest .answer .used) rest) (receive-good 1 s g (name 0 time) rest (replicate sampleMost 0)) (d .next)
+    (omega (arith, d .most))))
 
 pub fits : (input : List ℕ) → length (listed input) ≤ 65536
 unfolding listed

@@ -3,9 +3,10 @@ use Prim.Native.Nat.{ℕ, zero, suc, _+_}
 use mathlib.Core.List.{List, _++_}
 use lib.ListN.{length, drop, replicate}
 use Rattle.laws.specs.Rows.{_⇒_⁏_, _<?_, _=?_}
-use Rattle.paper.specs.Limits.{sampleMost, placesMost, finishedMost, marksEach, storeSize}
+use Rattle.paper.specs.Limits.{sampleMost, placesMost, rowsNeed, marksNeed, storesNeed}
 use Rattle.sample.specs.Place.{closed}
-use Rattle.relay.specs.Relay.{Tables, Done, tables, setUp, receivedAt}
+use Rattle.memory.specs.Relay.{Tables, Done, tables, setUp, receivedAt}
+use Rattle.good.specs.Good.{name}
 use Rattle.lines.specs.Words.{wordEnd, wordTooLong, newLine}
 use Rattle.lines.specs.Line.{lineOf}
 
@@ -22,14 +23,14 @@ tooLong = wordTooLong ++ newLine
 
 -- what set-up makes for one desk of memory that is blank
 unfoldable pub blank : Tables
-blank = tables (replicate placesMost closed) (replicate finishedMost 0) (replicate marksEach 0) (replicate storeSize 0)
+blank = tables (replicate placesMost closed) (replicate (rowsNeed 1) 0) (replicate (marksNeed 1) 0) (replicate (storesNeed 1) 0)
 
 unfoldable pub fresh : Tables
 fresh = setUp 1 blank .tables
 
 -- one call of desk 0, lent a blank output
 abbrev pub called : Tables → (time : ℕ) → (rest : List ℕ) → Done
-called s time rest = receivedAt 1 s 0 time rest (replicate sampleMost 0)
+called s time rest = receivedAt s (name 0 time) rest (replicate sampleMost 0)
 
 -- a line a unit, and `end`: rest begins at `at` in the payload, and is read at `time`. `turns` bounds the number of units
 unfoldable pub linesFrom : (turns : ℕ) → Tables → (time at : ℕ) → (rest : List ℕ) → List ℕ

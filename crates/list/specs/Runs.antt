@@ -8,17 +8,16 @@ use lib.ListN.{length, take, drop, replicate, length-drop, length-replicate}
 use lib.Seq.{drop-drop}
 use Rattle.laws.specs.Rows.{_⇒_⁏_, _or_, _<?_, _=?_, yes, no, lt, ge, eq, ne}
 use Rattle.laws.specs.Region.{tail-is}
-use Rattle.paper.specs.Limits.{sampleMost, placesMost, finishedMost, marksEach, storeSize}
-use Rattle.paper.specs.declared.Refusal.{Refusal}
+use Rattle.paper.specs.Limits.{sampleMost, placesMost, rowsNeed, marksNeed, storesNeed}
 use Rattle.sample.specs.declared.Place.{Place}
 use Rattle.sample.specs.Place.{closed}
 use Rattle.desk.specs.Desk.{received}
 use Rattle.desk.specs.Effects.{progress}
-use Rattle.relay.specs.declared.Relay.{Relay}
-use Rattle.relay.specs.declared.Started.{Started}
-use Rattle.relay.specs.declared.Started.the-variants.{Ready, Refused}
-use Rattle.relay.specs.Relay.{Tables, Prepared, Done, tables, placesOf, ownOf, sharesOf, improper, short, lacking, ready, setUp, settled, ordered, receivedAt}
-use Rattle.good.specs.Good.{Good, no-stranger, no-lack, ready-exactly, set-up-good, receive-good}
+use Rattle.memory.specs.declared.Started.the-variants.{Ready}
+use Rattle.memory.specs.Relay.{Tables, Prepared, Done, tables, placesOf, ownOf, sharesOf, improper, short, lacking, setUp, settled}
+use Rattle.memory.specs.Relay.{ordered, receivedAt}
+use Rattle.good.specs.Good.{name, Good, ready-exactly, set-up-good, receive-good}
+use Rattle.good.specs.View.{receive-is}
 use Rattle.lines.specs.Line.{lineOf}
 use Rattle.lines.specs.Typed.{Page, page, typed, more}
 use Rattle.list.specs.Listed.{payloadMost, endLine, tooLong, blank, fresh, called, linesFrom, listed}
@@ -39,32 +38,21 @@ blank-enough =
     (neither _ _ (ge _ _ (simp length-replicate (omega arith))) (ge _ _ (simp length-replicate (omega arith)))))
     (ge _ _ (simp length-replicate (omega arith)))
 
-blank-ready : setUp 1 blank .answer ≡ ready 1
+blank-ready : setUp 1 blank .answer ≡ Ready
 blank-ready = ready-exactly 1 blank .1 (neither _ _ proper blank-enough)
 
 pub fresh-good : Good 1 fresh
 unfolding fresh
 fresh-good = set-up-good 1 blank blank-ready
 
-abbrev desksOf : Started → ℕ
-desksOf (Ready r) = r .desks
-desksOf (Refused r) = 0
-
 -- in the code's own values: the places are lent as copies of p
-module _ (p : Place) (c : p ≡ closed) (m : Prepared)
-    (e : m ≡ setUp 1 (tables (replicate placesMost p) (replicate finishedMost 0) (replicate marksEach 0) (replicate storeSize 0))) where
+abbrev lentTo : Place → Tables
+lentTo p = tables (replicate placesMost p) (replicate (rowsNeed 1) 0) (replicate (marksNeed 1) 0) (replicate (storesNeed 1) 0)
+
+module _ (p : Place) (c : p ≡ closed) (m : Prepared) (e : m ≡ setUp 1 (lentTo p)) where
   begun : m ≡ setUp 1 blank
   unfolding blank
-  begun = e ∙ ap (λ (q : Place). setUp 1 (tables (replicate placesMost q) (replicate finishedMost 0) (replicate marksEach 0) (replicate storeSize 0))) c
-
-  begun-desks : desksOf (m .answer) ≡ 1
-  begun-desks = ap (λ (n : Prepared). desksOf (n .answer)) begun ∙ ap desksOf blank-ready
-
-  pub begun-ready : (r : Relay) → m .answer ≡ Ready r → r .desks ≡ 1
-  begun-ready r a = sym (ap desksOf a) ∙ begun-desks
-
-  pub begun-refused : (r : Refusal) → m .answer ≡ Refused r → ⊥
-  begun-refused r a = let z : _≡_ {A = ℕ} 0 1 = sym (ap desksOf a) ∙ begun-desks in omega arith
+  begun = e ∙ ap (λ (q : Place). setUp 1 (lentTo q)) c
 
   pub begun-fresh : m .tables ≡ fresh
   unfolding fresh
@@ -77,12 +65,11 @@ module _ (p : Place) (c : p ≡ closed) (m : Prepared)
 pub called-is : (s : Tables) (time : ℕ) (rest : List ℕ) → Good 1 s
     → called s time rest
     ≡ settled 1 s 0 time (received (sharesOf 1 0 (placesOf 1 s)) (ownOf 1 s 0 time (replicate sampleMost 0)) 0 time rest)
-unfolding receivedAt ordered
+unfolding ordered
 called-is s time rest g =
-    ap (settled 1 s 0 time)
-    (sym
-    (no _ _ (neither _ _ (no-stranger 1 0 s g (omega arith)) (no-lack 1 s g))
-    (no _ _ (ge _ _ (omega (arith, length-replicate {A = ℕ} sampleMost 0))) refl)))
+    receive-is 1 s g 0 (omega arith) time rest (replicate sampleMost 0)
+    ∙ ap (settled 1 s 0 time)
+    (sym (no _ _ refl (no _ _ (ge _ _ (omega (arith, length-replicate {A = ℕ} sampleMost 0))) refl)))
 
 -- it uses a byte at least, and at most the rest
 pub goes-on : (s : Tables) (time : ℕ) (rest : List ℕ) → Good 1 s → 0 < length rest
@@ -91,13 +78,10 @@ goes-on s time rest g l =
     let p = progress (sharesOf 1 0 (placesOf 1 s)) (ownOf 1 s 0 time (replicate sampleMost 0)) 0 time rest in
     rw (called-is s time rest g) (p .1 l, p .0)
 
--- in the code's own values: `&input[at..]` is lent, and n is 1
-pub called-of : (n : ℕ) (d : Done) (s : Tables) (time at : ℕ) (input : List ℕ) → n ≡ 1
-    → d ≡ receivedAt n s 0 time (take (length input - at) (drop at input)) (replicate sampleMost 0) → d ≡ called s time (drop at input)
-called-of n d s time at input h e =
-    e
-    ∙ ap (λ (k : ℕ). receivedAt k s 0 time (take (length input - at) (drop at input)) (replicate sampleMost 0)) h
-    ∙ ap (called s time) (tail-is input at)
+-- in the code's own values: `&input[at..]` is lent
+pub called-of : (d : Done) (s : Tables) (time at : ℕ) (input : List ℕ)
+    → d ≡ receivedAt s (name 0 time) (take (length input - at) (drop at input)) (replicate sampleMost 0) → d ≡ called s time (drop at input)
+called-of d s time at input e = e ∙ ap (called s time) (tail-is input at)
 
 -- ---- the lines of a rest
 lines-end : (turns : ℕ) (s : Tables) (time at : ℕ) (rest : List ℕ) → length rest ≡ 0 → linesFrom turns s time at rest ≡ endLine
@@ -142,7 +126,7 @@ module _ (all : Page) (input text : List ℕ) (s : Tables) (time at next : ℕ) 
           let r : length (drop at input) ≡ length input - at = length-drop at input in
           record {
             inside = u .1;
-            good = rw e (receive-good 1 s (l .good) 0 time (drop at input) (replicate sampleMost 0));
+            good = rw e (receive-good 1 s (l .good) (name 0 time) (drop at input) (replicate sampleMost 0));
             turns = k;
             enough = omega arith;
             same = ap (λ (r : List ℕ). typed after behind (linesFrom k (d .tables) (d .answer .next) (at + d .answer .used) r))

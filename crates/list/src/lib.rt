@@ -1,24 +1,25 @@
 // The listing of one payload: a line a unit.
+use paper::Name;
 use paper::limits::FINISHED_MOST;
+use paper::limits::HEAD_SIZE;
 use paper::limits::MARKS_EACH;
 use paper::limits::PLACES_MOST;
 use paper::limits::SAMPLE_MOST;
 use paper::limits::STORE_SIZE;
-use relay::Relay;
-use relay::Started;
 use sample::Place;
 ghost use mathlib.Core.Path.{_≡_};
 ghost use lib.ListN.{length};
-ghost use Rattle.relay.specs.Relay.{tables};
+ghost use Rattle.memory.specs.Relay.{tables};
 ghost use Rattle.good.specs.Good.{Good};
 ghost use Rattle.lines.specs.Typed.{page, typed};
 ghost use Rattle.list.specs.Listed.{linesFrom, listed};
 
 const PAYLOAD_MOST: usize = 4096;
 
+const MARKS_FOR_ONE: usize = HEAD_SIZE + MARKS_EACH;
+
 // The lines of the units, one after the other, and `end`.
 fn list_units(
-    relay: Relay,
     fresh: [Place; PLACES_MOST],
     rows: &mut [u32],
     marks: &mut [u32],
@@ -26,7 +27,7 @@ fn list_units(
     input: &[u8],
     text: &mut [u8],
 ) -> usize
-    requires { ⌜ (relay .desks ≡ 1) × Good 1 (tables fresh (now rows) (now marks) (now stores)) ⌝ }
+    requires { ⌜ Good 1 (tables fresh (now rows) (now marks) (now stores)) ⌝ }
     ensures { λ r. ⌜ page (now (text .exit)) r
         ≡ typed (now (text .entry)) 0
         (linesFrom (length (now (input .entry))) (tables fresh (now (rows .entry)) (now (marks .entry)) (now (stores .entry)))
@@ -38,17 +39,8 @@ fn list_units(
     let mut next = 0;
     while at < input.len() {
         let mut out = [0u8; SAMPLE_MOST];
-        let called = held::receive(
-            relay,
-            places,
-            rows,
-            marks,
-            stores,
-            0,
-            time,
-            &input[at..],
-            &mut out,
-        );
+        let who = Name { desk: 0, time };
+        let called = held::receive(places, rows, marks, stores, who, &input[at..], &mut out);
         let answer = called.answer;
         next = lines::put_line(text, next, at, time, answer);
         places = called.places;
@@ -66,7 +58,7 @@ pub fn list(input: &[u8], text: &mut [u8]) -> usize
         return lines::put_text(text, 0, b"too long\n");
     }
     let mut rows = [0u32; FINISHED_MOST];
-    let mut marks = [0u32; MARKS_EACH];
+    let mut marks = [0u32; MARKS_FOR_ONE];
     let mut stores = [0u8; STORE_SIZE];
     let begun = held::set_up(
         1,
@@ -75,19 +67,6 @@ pub fn list(input: &[u8], text: &mut [u8]) -> usize
         &mut marks,
         &mut stores,
     );
-    let answer = begun.answer;
-    let Started::Ready(relay) = answer else {
-        // Never reached: what is lent is enough for one desk.
-        return 0;
-    };
     let places = begun.places;
-    list_units(
-        relay,
-        places,
-        &mut rows,
-        &mut marks,
-        &mut stores,
-        input,
-        text,
-    )
+    list_units(places, &mut rows, &mut marks, &mut stores, input, text)
 }

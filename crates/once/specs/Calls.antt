@@ -18,7 +18,7 @@ use Rattle.again.specs.Again as A
 use Rattle.sample.specs.declared.Place.{Place}
 use Rattle.desk.specs.Desk.{laterPart, taken, received}
 use Rattle.desk.specs.Effects.{asks}
-use Rattle.relay.specs.Relay.{ordered}
+use Rattle.memory.specs.Relay.{ordered}
 use Rattle.good.specs.View.{View, ownIn, receives}
 use Rattle.peace.specs.Run.{Call, receive, give-up, lookup, Got, Few}
 use Rattle.peace.specs.Alone.{lone, own-got, own-view, Sparing}

@@ -10,7 +10,7 @@ use lib.ListN.{length, take}
 use lib.Seq.{getD-set-same}
 use Rattle.laws.specs.Rows.{each}
 use Rattle.laws.specs.Region.{length-cell}
-use Rattle.paper.specs.Limits.{window, recordSize, marksEach, storeSize}
+use Rattle.paper.specs.Limits.{window, recordSize, headSize, marksEach, storeSize}
 use Rattle.paper.specs.Words.{kindOf}
 use Rattle.paper.specs.declared.Outcome.{Outcome}
 use Rattle.paper.specs.declared.Outcome.the-variants as O
@@ -24,7 +24,8 @@ use Rattle.style.specs.Store.{noted}
 use Rattle.style.specs.Shown as S
 use Rattle.desk.specs.declared.Shares.{Shares}
 use Rattle.desk.specs.Desk.{Own, After, newestOf, descriptionTaken, taken, received}
-use Rattle.relay.specs.Relay.{Tables, placesOf, sharesOf, ordered, Done}
+use Rattle.memory.specs.Relay.{Tables, placesOf, sharesOf, ordered, Done}
+use Rattle.good.specs.Cells.{length-front}
 use Rattle.good.specs.Good.{Good}
 use Rattle.good.specs.View.{View, view, ownIn, receives, receive-is, receive-own, lookup-is}
 use Rattle.peace.specs.Run.{receive, lookup, Got, answered, released, shown, got, next}
@@ -74,20 +75,20 @@ NotedGot (shown x) = ⊥
 pub shown-as-written : (n desk : ℕ) → desk < n → (s : Tables) → Good n s → (SIDX : ℕ) (d : List ℕ) (M k : ℕ) (lent : List ℕ) (len N : ℕ)
     → described SIDX d M k lent .answer ≡ Payload len N → (time : ℕ) (more out book : List ℕ)
     → let c = receive desk time (take len (described SIDX d M k lent .out) ++ more) out in
-    NotedGot (got n s c) → got n (next n s c) (lookup desk SIDX book) ≡ shown d
+    NotedGot (got s c) → got (next s c) (lookup desk SIDX book) ≡ shown d
 shown-as-written n desk l s g SIDX d M k lent len N e time more out book q =
     let p = take len (described SIDX d M k lent .out) in
     let c = receive desk time (p ++ more) out in
     let v = view n desk s in
     let a = receives (sharesOf n desk (placesOf n s)) v desk time (p ++ more) out in
     let o = receive-own n s g desk l time (p ++ more) out in
-    let two : 1 < length (v .marks) = omega (arith, length-cell marksEach n desk (s .marks) (g .marks) l) in
-    let long : window * recordSize ≤ length (v .store) = omega (arith, length-cell storeSize n desk (s .stores) (g .stores) l) in
+    let two : 1 < length (v .marks) = omega (arith, length-cell headSize marksEach n desk (s .marks) (g .marks) l) in
+    let long : window * recordSize ≤ length (v .store) = omega (arith, length-front storeSize n desk (s .stores) (g .stores) l) in
     let w = described-again SIDX d M k lent len N e in
     let r = received-shows SIDX d p len N w more book (sharesOf n desk (placesOf n s)) (ownIn v time out) desk time two long in
     let b : Noted (a .answer .outcome) =
     subst (λ (z : Done). Noted (z .answer .outcome)) (receive-is n s g desk l time (p ++ more) out) q in
     ap shown
-    (lookup-is n (next n s c) (next-good n s g c) desk l SIDX book
+    (lookup-is n (next s c) (next-good n s g c) desk l SIDX book
     ∙ ap (λ (z : View). S.shown book (z .store) (newestOf (z .marks)) SIDX) o
     ∙ r b)

@@ -25,7 +25,7 @@ use Rattle.style.specs.Store.{noted}
 use Rattle.style.specs.Store as S
 use Rattle.desk.specs.declared.Shares.{Shares}
 use Rattle.desk.specs.Desk.{Own, After, own, inUse, newestOf, finish, wholeTaken, completed, joining, descriptionTaken, taken, received, Given, givenUp}
-use Rattle.relay.specs.Relay.{ordered, yielded}
+use Rattle.memory.specs.Relay.{ordered, yielded}
 use Rattle.good.specs.View.{View, ownIn, receives, givesUp}
 use Rattle.once.specs.Ours.{bears, offers}
 use Rattle.once.specs.Due.{handsOut, finishing, freeing}

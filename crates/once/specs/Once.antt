@@ -21,7 +21,8 @@ use Rattle.writer.specs.Payloads.{total}
 use Rattle.sample.specs.Place.{bare}
 use Rattle.finished.specs.Until.{none-late}
 use Rattle.desk.specs.Desk.{sampleOf}
-use Rattle.relay.specs.Relay.{Tables, ready, setUp}
+use Rattle.memory.specs.declared.Started.the-variants.{Ready}
+use Rattle.memory.specs.Relay.{Tables, setUp}
 use Rattle.good.specs.Good.{set-up-good}
 use Rattle.good.specs.View.{View, view}
 use Rattle.good.specs.Fresh.{freshView, set-up-view}
@@ -173,14 +174,14 @@ fresh-once c M N time xs f p =
     }
 
 -- In any run from set-up, among all others: what a modest desk is told of a sample whose payloads come to it.
-pub handed-out-once : (n d : ℕ) → d < n → (s : Tables) → setUp n s .answer ≡ ready n → (xs : List Call) → Modest n d (setUp n s .tables) xs
-    → (c : Caption) (M N time : ℕ) → Coming c M N time (only d xs) (to d (run n (setUp n s .tables) xs))
-    → HandedOnce c M time (only d xs) (to d (run n (setUp n s .tables) xs))
+pub handed-out-once : (n d : ℕ) → d < n → (s : Tables) → setUp n s .answer ≡ Ready → (xs : List Call) → Modest d (setUp n s .tables) xs
+    → (c : Caption) (M N time : ℕ) → Coming c M N time (only d xs) (to d (run (setUp n s .tables) xs))
+    → HandedOnce c M time (only d xs) (to d (run (setUp n s .tables) xs))
 handed-out-once n d h s e xs m c M N time p =
     let v : view n d (setUp n s .tables) ≡ freshView = set-up-view n d s e h in
     let g = set-up-good n s e in
     let f : Frugal (view n d (setUp n s .tables)) (only d xs) = modest-frugal n d h xs (setUp n s .tables) g m in
-    let q : to d (run n (setUp n s .tables) xs) ≡ alone freshView (only d xs) =
+    let q : to d (run (setUp n s .tables) xs) ≡ alone freshView (only d xs) =
     as-frugal n d h xs (setUp n s .tables) g f ∙ ap (λ (z : View). alone z (only d xs)) v in
     subst (HandedOnce c M time (only d xs)) (sym q)
     (fresh-once c M N time (only d xs) (subst (λ (z : View). Frugal z (only d xs)) v f) (subst (Coming c M N time (only d xs)) q p))

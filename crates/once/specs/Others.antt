@@ -16,7 +16,7 @@ use Rattle.desk.specs.declared.GivenUp.{GivenUp}
 use Rattle.desk.specs.declared.GivenUp.the-variants.{Freed}
 use Rattle.desk.specs.declared.GivenUp.the-variants as G
 use Rattle.desk.specs.Desk.{Own, inUse, Given, givenUp}
-use Rattle.relay.specs.Relay.{yielded}
+use Rattle.memory.specs.Relay.{yielded}
 use Rattle.good.specs.View.{View, ownIn, seenAfter, receives, givesUp}
 use Rattle.peace.specs.Run.{Call, receive, give-up, lookup, released}
 use Rattle.peace.specs.Alone.{lone, own-got, own-view}

@@ -27,7 +27,8 @@ use Rattle.desk.specs.declared.GivenUp.the-variants as G
 use Rattle.desk.specs.Desk.{says, laterPart, wholeTaken, sampleOf, conflicts, six, usedUp, completed, joining, received, givenUp}
 use Rattle.desk.specs.Effects.{asksPart}
 use Rattle.octets.specs.Same.{same}
-use Rattle.relay.specs.Relay.{Tables, ready, setUp, ordered, yielded}
+use Rattle.memory.specs.declared.Started.the-variants.{Ready}
+use Rattle.memory.specs.Relay.{Tables, setUp, ordered, yielded}
 use Rattle.good.specs.Good.{set-up-good}
 use Rattle.good.specs.View.{View, view}
 use Rattle.good.specs.Fresh.{freshView, set-up-view}
@@ -219,28 +220,29 @@ three-coming desk = record {
 
 -- ---- in any lent memory, among any others, whatever they do
 module _ (c : Caption) (M N : ℕ) (xs : List Call) (f : Frugal freshView xs) (p : Coming c M N 5 xs (alone freshView xs)) where
-  anywhere : (n d : ℕ) → d < n → (s : Tables) → setUp n s .answer ≡ ready n → (ys : List Call) → only d ys ≡ xs
-      → HandedOnce c M 5 xs (to d (run n (setUp n s .tables) ys))
+  anywhere : (n d : ℕ) → d < n → (s : Tables) → setUp n s .answer ≡ Ready → (ys : List Call) → only d ys ≡ xs
+      → HandedOnce c M 5 xs (to d (run (setUp n s .tables) ys))
   anywhere n d h s e ys q =
       let r = setUp n s .tables in
       let g = set-up-good n s e in
       let v : view n d r ≡ freshView = set-up-view n d s e h in
       let k : Frugal (view n d r) (only d ys) = subst (λ (w : View). Frugal w (only d ys)) (sym v) (subst (Frugal freshView) (sym q) f) in
-      let t : alone freshView xs ≡ to d (run n r ys) = sym (as-frugal n d h ys r g k ∙ ap₂ alone v q) in
-      let z : Coming c M N 5 (only d ys) (to d (run n r ys)) =
-      subst (λ (l : List Call). Coming c M N 5 l (to d (run n r ys))) (sym q) (subst (Coming c M N 5 xs) t p) in
-      subst (λ (l : List Call). HandedOnce c M 5 l (to d (run n r ys))) q (handed-out-once n d h s e ys (frugal-modest n d h ys r g k) c M N 5 z)
+      let t : alone freshView xs ≡ to d (run r ys) = sym (as-frugal n d h ys r g k ∙ ap₂ alone v q) in
+      let z : Coming c M N 5 (only d ys) (to d (run r ys)) =
+      subst (λ (l : List Call). Coming c M N 5 l (to d (run r ys))) (sym q) (subst (Coming c M N 5 xs) t p) in
+      subst (λ (l : List Call). HandedOnce c M 5 l (to d (run r ys))) q
+      (handed-out-once n d h s e ys (frugal-modest n d h ys r g k) c M N 5 z)
 
-pub in-any-run : (n d : ℕ) → d < n → (s : Tables) → setUp n s .answer ≡ ready n → (xs : List Call) → only d xs ≡ calls d
-    → HandedOnce hi 19 5 (calls d) (to d (run n (setUp n s .tables) xs))
+pub in-any-run : (n d : ℕ) → d < n → (s : Tables) → setUp n s .answer ≡ Ready → (xs : List Call) → only d xs ≡ calls d
+    → HandedOnce hi 19 5 (calls d) (to d (run (setUp n s .tables) xs))
 in-any-run n d = anywhere hi 19 2 (calls d) (meets d .0 .frugal) (coming d) n d
 
-pub whole-in-any-run : (n d : ℕ) → d < n → (s : Tables) → setUp n s .answer ≡ ready n → (xs : List Call) → only d xs ≡ whole-calls d
-    → HandedOnce plain 14 5 (whole-calls d) (to d (run n (setUp n s .tables) xs))
+pub whole-in-any-run : (n d : ℕ) → d < n → (s : Tables) → setUp n s .answer ≡ Ready → (xs : List Call) → only d xs ≡ whole-calls d
+    → HandedOnce plain 14 5 (whole-calls d) (to d (run (setUp n s .tables) xs))
 whole-in-any-run n d = anywhere plain 14 1 (whole-calls d) (meets d .1 .frugal) (whole-coming d) n d
 
-pub three-in-any-run : (n d : ℕ) → d < n → (s : Tables) → setUp n s .answer ≡ ready n → (xs : List Call) → only d xs ≡ three-calls d
-    → HandedOnce abc 17 5 (three-calls d) (to d (run n (setUp n s .tables) xs))
+pub three-in-any-run : (n d : ℕ) → d < n → (s : Tables) → setUp n s .answer ≡ Ready → (xs : List Call) → only d xs ≡ three-calls d
+    → HandedOnce abc 17 5 (three-calls d) (to d (run (setUp n s .tables) xs))
 three-in-any-run n d = anywhere abc 17 3 (three-calls d) (meets d .2 .frugal) (three-coming d) n d
 
 -- ---- the sharp edge: n other samples finish, and the first part comes again

@@ -57,25 +57,42 @@ marksEach = 2
 abbrev pub storeSize : ℕ
 storeSize = window * recordSize
 
--- n desks have 4n places, of which 2n are common
+-- the head of the marks, before those of the desks: what the relay knows of itself. Its first number is how many desks there are; two
+-- more are room
+abbrev pub headSize : ℕ
+headSize = 3
+
+abbrev pub desksAt : ℕ
+desksAt = 0
+
+-- what n desks need: 4n places, of which 2n are common; rows of finished times; marks; stores
 abbrev pub places : ℕ → ℕ
 places n = placesEach * n
 
 abbrev pub common : ℕ → ℕ
 common n = commonEach * n
 
+abbrev pub rowsNeed : ℕ → ℕ
+rowsNeed n = finishedMost * n
+
+abbrev pub marksNeed : ℕ → ℕ
+marksNeed n = headSize + marksEach * n
+
+abbrev pub storesNeed : ℕ → ℕ
+storesNeed n = storeSize * n
+
 -- what eight desks need
 abbrev pub placesMost : ℕ
-placesMost = placesEach * desksMost
+placesMost = places desksMost
 
 abbrev pub rowsMost : ℕ
-rowsMost = finishedMost * desksMost
+rowsMost = rowsNeed desksMost
 
 abbrev pub marksMost : ℕ
-marksMost = marksEach * desksMost
+marksMost = marksNeed desksMost
 
 abbrev pub storesMost : ℕ
-storesMost = storeSize * desksMost
+storesMost = storesNeed desksMost
 
 -- the writer's size limit, and the first SDUR that does not fit 24 bits
 abbrev pub sizeLeast : ℕ

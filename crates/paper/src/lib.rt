@@ -24,6 +24,12 @@ pub enum Refusal {
     Book,
 }
 
+// The name of a sample: its desk and its running time.
+pub struct Name {
+    pub desk: usize,
+    pub time: u32,
+}
+
 // What is told of a sample that is handed out: its time, U, SIDX, SDUR, and how long its string and all of it are.
 pub struct Facts {
     pub time: u32,

@@ -29,13 +29,17 @@ pub const PLACES_EACH: usize = OWN_PLACES + COMMON_EACH;
 
 pub const MARKS_EACH: usize = 2;
 
+pub const HEAD_SIZE: usize = 3;
+
+pub const DESKS_AT: usize = 0;
+
 pub const STORE_SIZE: usize = WINDOW * RECORD_SIZE;
 
 pub const PLACES_MOST: usize = PLACES_EACH * DESKS_MOST;
 
 pub const ROWS_MOST: usize = FINISHED_MOST * DESKS_MOST;
 
-pub const MARKS_MOST: usize = MARKS_EACH * DESKS_MOST;
+pub const MARKS_MOST: usize = HEAD_SIZE + MARKS_EACH * DESKS_MOST;
 
 pub const STORES_MOST: usize = STORE_SIZE * DESKS_MOST;
 

@@ -23,7 +23,8 @@ use Rattle.sample.specs.Place.{kept}
 use Rattle.desk.specs.declared.Shares.{Shares}
 use Rattle.desk.specs.Desk.{Own, After, refuse, six, usedUp, completed, joining, taken, received}
 use Rattle.desk.specs.Effects.{asksPart, asks}
-use Rattle.relay.specs.Relay.{Tables, placesOf, ownOf, sharesOf, ordered, receivedAt}
+use Rattle.memory.specs.Relay.{Tables, desksOf, placesOf, ownOf, sharesOf, ordered, receivedAmong, receivedAt}
+use Rattle.good.specs.Good.{name}
 use Rattle.good.specs.Fair.{Passed}
 use Rattle.good.specs.Served.{Serves, let-through}
 use Rattle.peace.specs.Run.{receive, reaches}
@@ -83,23 +84,26 @@ module _ (h : Shares) (s : Own) (time used next : ℕ) (q : Place) (x : P.Part) 
       (yes _ _ (sym (no _ false (asked .0) (no _ false (ge _ _ (f .from)) (sym (eq _ _ (f .gone)))))) refl)
       ∙ asked .1)
 
--- ---- a call
-module _ (n : ℕ) (s : Tables) (desk time : ℕ) (rest out : List ℕ) where
+-- ---- a call, of any tables; n is what stands in their head
+module _ (s : Tables) (desk time : ℕ) (rest out : List ℕ) where
+  abbrev n : ℕ
+  n = desksOf (s .marks)
+
   abbrev pub shares : Shares
   shares = sharesOf n desk (placesOf n s)
 
   abbrev pub Asking : Type 0
-  Asking = reaches n s (receive desk time rest out) ≡ true
+  Asking = reaches s (receive desk time rest out) ≡ true
 
   abbrev pub outcome : Outcome
-  outcome = receivedAt n s desk time rest out .answer .outcome
+  outcome = receivedAt s (name desk time) rest out .answer .outcome
 
   -- what a part is refused by, where it reaches the test, the call is
   lifted : (r : Refusal) → Asking
       → ((used next : ℕ) (q : Place) (x : P.Part) (d : List ℕ) → asksPart (ownOf n s desk time out) time q x d ≡ true
       → joining shares (ownOf n s desk time out) time used next q x d ≡ refuse (ownOf n s desk time out) used next r)
       → outcome ≡ O.Refused r
-  unfolding receivedAt ordered received
+  unfolding receivedAmong ordered received
   lifted r k part =
       let a = past _ _ k in
       let b = past _ _ (a .1) in
@@ -115,13 +119,13 @@ module _ (n : ℕ) (s : Tables) (desk time : ℕ) (rest out : List ℕ) where
       go (Description w) e = absurd (true≢false (sym e))
 
   neither : (Asking → Passed shares) → Serves outcome
-  neither k = let-through n s desk time rest out (λ a b c. k (sym (no _ _ a (no _ _ b (sym c)))))
+  neither k = let-through s (name desk time) rest out (λ a b c. k (sym (no _ _ a (no _ _ b (sym c)))))
 
   -- whoever is answered 8 or 9 reached the test and was not let through
   by-shares : (r : Refusal) → outcome ≡ O.Refused r → ((numberOf r ≢ 8) × (numberOf r ≢ 9) → ⊥) → Asking × (Full shares ⊎ Spent shares)
-  by-shares r e k = go (reaches n s (receive desk time rest out)) refl
+  by-shares r e k = go (reaches s (receive desk time rest out)) refl
     where
-      go : (b : Bool) → reaches n s (receive desk time rest out) ≡ b → Asking × (Full shares ⊎ Spent shares)
+      go : (b : Bool) → reaches s (receive desk time rest out) ≡ b → Asking × (Full shares ⊎ Spent shares)
       go false l = absurd (k (neither (λ a. absurd (true≢false (sym a ∙ l))) r e))
       go true l = (l, ⊎-elim inl (λ w. ⊎-elim inr (λ p. absurd (k (neither (λ a. p) r e))) w) (sorted shares))
 
@@ -138,7 +142,13 @@ module _ (n : ℕ) (s : Tables) (desk time : ℕ) (rest out : List ℕ) where
       absurd (omega arith)
 
   pub eight : Exactly (outcome ≡ O.Refused R.Six) (Asking × Full shares)
-  eight = (λ e. let w = by-shares R.Six e (λ k. k .0 refl) in (w .0, ⊎-elim (λ f. f) (λ f. not-both e (is-nine (w .0) f)) (w .1)), λ w. is-eight (w .0) (w .1))
+  eight = (
+    λ e. let w = by-shares R.Six e (λ k. k .0 refl) in (w .0, ⊎-elim (λ f. f) (λ f. not-both e (is-nine (w .0) f)) (w .1)),
+    λ w. is-eight (w .0) (w .1),
+  )
 
   pub nine : Exactly (outcome ≡ O.Refused R.Common) (Asking × Spent shares)
-  nine = (λ e. let w = by-shares R.Common e (λ k. k .1 refl) in (w .0, ⊎-elim (λ f. not-both (is-eight (w .0) f) e) (λ f. f) (w .1)), λ w. is-nine (w .0) (w .1))
+  nine = (
+    λ e. let w = by-shares R.Common e (λ k. k .1 refl) in (w .0, ⊎-elim (λ f. not-both (is-eight (w .0) f) e) (λ f. f) (w .1)),
+    λ w. is-nine (w .0) (w .1),
+  )

@@ -13,8 +13,9 @@ use Rattle.unit.specs.Layout.{readOf}
 use Rattle.desk.specs.declared.GivenUp.{GivenUp}
 use Rattle.desk.specs.Desk.{Own}
 use Rattle.desk.specs.Effects.{asks}
-use Rattle.table.specs.Table.{mine}
-use Rattle.relay.specs.Relay.{Tables, placesOf, ownOf, stranger, lacking, receivedAt, givenUpAt, lookedUp}
+use Rattle.memory.specs.Table.{mine}
+use Rattle.memory.specs.Relay.{Tables, desksOf, placesOf, ownOf, stranger, lacking, receivedAt, givenUpAt, lookedUp}
+use Rattle.good.specs.Good.{name}
 
 -- ---- a call with all that it is handed, the output and the style book lent for it included
 pub data Call : Type 0 where
@@ -33,21 +34,22 @@ pub data Got : Type 0 where
   released : GivenUp → Got
   shown : (description : List ℕ) → Got
 
-abbrev pub got : (n : ℕ) → Tables → Call → Got
-got n s (receive desk time rest out) = answered (receivedAt n s desk time rest out .answer) (receivedAt n s desk time rest out .out)
-got n s (give-up desk time) = released (givenUpAt n s desk time .answer)
-got n s (lookup desk index book) = shown (lookedUp n (s .marks) (s .stores) desk index book)
+abbrev pub got : Tables → Call → Got
+got s (receive desk time rest out) =
+    answered (receivedAt s (name desk time) rest out .answer) (receivedAt s (name desk time) rest out .out)
+got s (give-up desk time) = released (givenUpAt s (name desk time) .answer)
+got s (lookup desk index book) = shown (lookedUp (s .marks) (s .stores) desk index book)
 
 -- the tables after it
-abbrev pub next : (n : ℕ) → Tables → Call → Tables
-next n s (receive desk time rest out) = receivedAt n s desk time rest out .tables
-next n s (give-up desk time) = givenUpAt n s desk time .tables
-next n s (lookup desk index book) = s
+abbrev pub next : Tables → Call → Tables
+next s (receive desk time rest out) = receivedAt s (name desk time) rest out .tables
+next s (give-up desk time) = givenUpAt s (name desk time) .tables
+next s (lookup desk index book) = s
 
 -- ---- a run hands the tables on, and collects for each call the desk and what it got
-abbrev pub run : (n : ℕ) → Tables → List Call → List (ℕ × Got)
-run n s [] = []
-run n s (c ∷ cs) = (caller c, got n s c) ∷ run n (next n s c) cs
+abbrev pub run : Tables → List Call → List (ℕ × Got)
+run s [] = []
+run s (c ∷ cs) = (caller c, got s c) ∷ run (next s c) cs
 
 -- what is collected for desk d, and the calls of desk d
 abbrev pub to : (d : ℕ) → List (ℕ × Got) → List Got
@@ -66,16 +68,17 @@ arrives o desk time rest =
     ⁏ asks o desk time rest (readOf rest .unit)
 
 -- and so does the call, where 1 lets it through
-abbrev pub reaches : (n : ℕ) → Tables → Call → Bool
-reaches n s (receive desk time rest out) =
-    stranger n desk or lacking n s ⇒ false
-    ⁏ arrives (ownOf n s desk time out) desk time rest
-reaches n s (give-up desk time) = false
-reaches n s (lookup desk index book) = false
+abbrev pub reaches : Tables → Call → Bool
+reaches s (receive desk time rest out) =
+    stranger (desksOf (s .marks)) desk or lacking (desksOf (s .marks)) s ⇒ false
+    ⁏ arrives (ownOf (desksOf (s .marks)) s desk time out) desk time rest
+reaches s (give-up desk time) = false
+reaches s (lookup desk index book) = false
 
 abbrev pub Few : (opens : ℕ) → Type 0
 Few opens = opens < ownPlaces
 
-abbrev pub Modest : (n d : ℕ) → Tables → List Call → Type 0
-Modest n d s [] = Unit {0}
-Modest n d s (c ∷ cs) = (caller c ≡ d → reaches n s c ≡ true → Few (count (mine d) (placesOf n s))) × Modest n d (next n s c) cs
+abbrev pub Modest : (d : ℕ) → Tables → List Call → Type 0
+Modest d s [] = Unit {0}
+Modest d s (c ∷ cs) =
+    (caller c ≡ d → reaches s c ≡ true → Few (count (mine d) (placesOf (desksOf (s .marks)) s))) × Modest d (next s c) cs

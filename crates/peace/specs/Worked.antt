@@ -1,11 +1,11 @@
 -- Worked runs, by computation. In lent memory exactly as long as two desks need: a desk is not disturbed by one that takes all it can get;
--- and modesty is needed, by case 10 of document 01. In any lent memory: the same quiet desk among seven others, whatever they do.
--- Assumes nothing.
+-- and modesty is needed, by case 10 of document 01. In any lent memory: the same quiet desk among seven others, whatever they do. In
+-- memory that holds no relay: every call is refused. Assumes nothing.
 use Prim.Native.Nat.{ℕ, _<_}
 use native.Mathlib.Omega.{arith}
-use mathlib.Core.Path.{_≡_, refl, sym, ap₂, subst, _∙_}
-use mathlib.Core.Bool.{false, true≢false}
-use mathlib.Core.List.{List, [], _∷_, _++_, flatten}
+use mathlib.Core.Path.{_≡_, refl, sym, ap, ap₂, subst, _∙_}
+use mathlib.Core.Bool.{true, false, true≢false}
+use mathlib.Core.List.{List, [], _∷_, _++_, map, flatten}
 use lib.Count.{ones}
 use lib.ListN.{replicate}
 use lib.Seq.{sets}
@@ -19,13 +19,17 @@ use Rattle.joining.specs.Joining as J
 use Rattle.sample.specs.Place.{bare, outside, has, agrees, stands, repeats, oversize, toldOf, telling, laid, kept, missing, piecesIn, piecesOf}
 use Rattle.finished.specs.Times.{among, markedRow, markedUsed}
 use Rattle.desk.specs.declared.GivenUp.the-variants.{Freed}
+use Rattle.desk.specs.declared.GivenUp.the-variants as G
 use Rattle.desk.specs.Desk.{says, facts, laterPart, sampleOf, conflicts, six, usedUp, completed, joining, received, givenUp}
 use Rattle.desk.specs.Effects.{asksPart}
-use Rattle.relay.specs.Relay.{Tables, standsAt, improper, stranger, short, freshMarks, setUp, ready, ordered, receivedAt, yielded, givenUpAt}
-use Rattle.good.specs.Good.{set-up-good}
+use Rattle.memory.specs.declared.Started.the-variants.{Ready}
+use Rattle.memory.specs.Relay.{Tables, desksOf, standsAt, improper, stranger, short, ownMarks, setUp, ordered, Done, receivedAmong}
+use Rattle.memory.specs.Relay.{yielded, Released, givenUpAmong}
+use Rattle.good.specs.Good.{name, set-up-good}
+use Rattle.good.specs.Lifted.{no-relay-receive, no-relay-give-up, no-relay-lookup}
 use Rattle.good.specs.View.{View, view}
 use Rattle.good.specs.Fresh.{freshView, set-up-view, Exact, exactTables, set-up-exact}
-use Rattle.peace.specs.Run.{Call, receive, give-up, Got, answered, released, run, to, only}
+use Rattle.peace.specs.Run.{Call, receive, give-up, lookup, caller, Got, answered, released, shown, got, next, run, to, only}
 use Rattle.peace.specs.Alone.{alone, Frugal, as-frugal}
 
 -- ---- cases 7 and 8 of document 01: the two parts of one sample, and the sample
@@ -63,7 +67,8 @@ greedy = opens 0 1 ∷ opens 0 2 ∷ opens 0 3 ∷ opens 0 4 ∷ opens 0 5 ∷ o
 
 abbrev greedy-gets : List Got
 greedy-gets =
-    hears 1 (O.Kept 1) ∷ hears 2 (O.Kept 1) ∷ hears 3 (O.Kept 1) ∷ hears 4 (O.Kept 1) ∷ hears 5 (O.Kept 1) ∷ hears 6 (O.Kept 1) ∷ hears 7 (O.Refused R.Six) ∷ []
+    hears 1 (O.Kept 1) ∷ hears 2 (O.Kept 1) ∷ hears 3 (O.Kept 1) ∷ hears 4 (O.Kept 1) ∷ hears 5 (O.Kept 1) ∷ hears 6 (O.Kept 1)
+    ∷ hears 7 (O.Refused R.Six) ∷ []
 
 -- both at one relay, where the greedy one gives one up and takes another
 abbrev both : List Call
@@ -75,17 +80,20 @@ three = opens 1 1 ∷ opens 1 2 ∷ opens 1 3 ∷ []
 
 -- ---- what the rules compute to
 abbrev Peaceful : Tables → Type 0
-Peaceful s = (to 1 (run 2 s both) ≡ quiet-gets) × (to 1 (run 2 s (quiet 1)) ≡ quiet-gets)
+Peaceful s = (to 1 (run s both) ≡ quiet-gets) × (to 1 (run s (quiet 1)) ≡ quiet-gets)
 
 abbrev Crowded : Tables → Type 0
 Crowded s =
-    (to 0 (run 2 s (greedy ++ three)) ≡ greedy-gets)
-    × ((to 1 (run 2 s (greedy ++ three)) ≡ hears 1 (O.Kept 1) ∷ hears 2 (O.Kept 1) ∷ hears 3 (O.Refused R.Common) ∷ [])
-    × (to 1 (run 2 s three) ≡ hears 1 (O.Kept 1) ∷ hears 2 (O.Kept 1) ∷ hears 3 (O.Kept 1) ∷ []))
+    (to 0 (run s (greedy ++ three)) ≡ greedy-gets)
+    × ((to 1 (run s (greedy ++ three)) ≡ hears 1 (O.Kept 1) ∷ hears 2 (O.Kept 1) ∷ hears 3 (O.Refused R.Common) ∷ [])
+    × (to 1 (run s three) ≡ hears 1 (O.Kept 1) ∷ hears 2 (O.Kept 1) ∷ hears 3 (O.Kept 1) ∷ []))
 
 -- alone, the quiet desk has none open at its first call and one at its second, and its others ask for no place
 computed : Peaceful (exactTables 2) × (Crowded (exactTables 2) × (Frugal freshView (quiet 7) × (alone freshView (quiet 7) ≡ quiet-gets)))
-unfolding _⇒_⁏_ _<?_ _=?_ readOf broken judged fieldsOf least badPart bare outside has agrees stands repeats oversize toldOf telling laid kept missing piecesIn piecesOf among laterPart sampleOf conflicts six usedUp completed joining received standsAt improper stranger short freshMarks ordered receivedAt ones markedRow markedUsed givenUp yielded givenUpAt J.laters J.going J.ordered J.sound flatten asksPart
+unfolding _⇒_⁏_ _<?_ _=?_ readOf broken judged fieldsOf least badPart bare outside has agrees stands repeats oversize toldOf telling
+    laid kept missing piecesIn piecesOf among laterPart sampleOf conflicts six usedUp completed joining received standsAt improper
+    stranger short ownMarks ordered receivedAmong ones markedRow markedUsed givenUp yielded givenUpAmong J.laters J.going J.ordered
+    J.sound flatten asksPart
 computed =
     ((refl, refl), ((refl, (refl, refl)), ((λ e. omega arith, (λ e. omega arith, (λ e. absurd (true≢false (sym e)), (λ e. absurd (true≢false (sym e)), tt)))), refl)))
 
@@ -103,10 +111,34 @@ pub case-10 : (s : Tables) → Exact 2 s → Crowded (setUp 2 s .tables)
 case-10 s x = subst Crowded (sym (set-up-exact 2 s two-is-proper x)) (computed .1 .0)
 
 -- ---- in any lent memory, among seven others: whatever they do, desk 7 gets this
-pub among-seven : (s : Tables) → setUp 8 s .answer ≡ ready 8 → (xs : List Call) → only 7 xs ≡ quiet 7
-    → to 7 (run 8 (setUp 8 s .tables) xs) ≡ quiet-gets
+pub among-seven : (s : Tables) → setUp 8 s .answer ≡ Ready → (xs : List Call) → only 7 xs ≡ quiet 7
+    → to 7 (run (setUp 8 s .tables) xs) ≡ quiet-gets
 among-seven s e xs q =
     let h : 7 < 8 = omega arith in
     let v : view 8 7 (setUp 8 s .tables) ≡ freshView = set-up-view 8 7 s e h in
-    let f : Frugal (view 8 7 (setUp 8 s .tables)) (only 7 xs) = subst (λ (w : View). Frugal w (only 7 xs)) (sym v) (subst (Frugal freshView) (sym q) (computed .1 .1 .0)) in
+    let f : Frugal (view 8 7 (setUp 8 s .tables)) (only 7 xs) =
+    subst (λ (w : View). Frugal w (only 7 xs)) (sym v) (subst (Frugal freshView) (sym q) (computed .1 .1 .0)) in
     as-frugal 8 7 h xs (setUp 8 s .tables) (set-up-good 8 s e) f ∙ ap₂ alone v q ∙ computed .1 .1 .1
+
+-- ---- in memory whose head does not hold 1 to 8: whatever is called, each call is refused by 1, and a lookup shows nothing
+abbrev denied : Call → Got
+denied (receive desk time rest out) = answered (says 0 time (O.Refused R.Desk)) out
+denied (give-up desk time) = released (G.Refused R.Desk)
+denied (lookup desk index book) = shown []
+
+module _ (s : Tables) (e : improper (desksOf (s .marks)) ≡ true) where
+  -- and leaves the tables as they stood
+  denies : (c : Call) → (got s c ≡ denied c) × (next s c ≡ s)
+  denies (receive desk time rest out) =
+      let q = no-relay-receive s e (name desk time) rest out in
+      (ap (λ (r : Done). answered (r .answer) (r .out)) q, ap (λ (r : Done). r .tables) q)
+  denies (give-up desk time) =
+      let q = no-relay-give-up s e (name desk time) in
+      (ap (λ (r : Released). released (r .answer)) q, ap (λ (r : Released). r .tables) q)
+  denies (lookup desk index book) = (ap shown (no-relay-lookup s e desk index book), refl)
+
+  pub no-relay : (xs : List Call) → run s xs ≡ map (λ (c : Call). (caller c, denied c)) xs
+  no-relay [] = refl
+  no-relay (c ∷ cs) =
+      ap₂ (λ (g : Got) (t : Tables). (caller c, g) ∷ run t cs) (denies c .0) (denies c .1)
+      ∙ ap (λ (gs : List (ℕ × Got)). (caller c, denied c) ∷ gs) (no-relay cs)

@@ -1,5 +1,6 @@
 // One call on the desk, and its line.
 use crate::print;
+use crate::turn;
 use desk::GivenUp;
 use desk::Shares;
 use paper::Facts;
@@ -138,7 +139,7 @@ fn take(
     value(b"time", time as usize);
     print::word(b" rest");
     front(rest);
-    let t = desk::receive(h, 0, place, row, marks, store, time, rest, out);
+    let t = turn::receive(h, place, row, marks, store, time, rest, out);
     let a = t.answer;
     value(b", used", a.used);
     value(b" next", a.next as usize);
@@ -189,14 +190,15 @@ pub(crate) fn aside(d: Desk, time: u32, rest: &[u8]) -> Desk {
 pub(crate) fn give_up(d: Desk, time: u32) -> Desk {
     let mut row = d.row;
     let mut marks = d.marks;
+    let mut place = d.place;
     value(b"give up", time as usize);
-    let f = desk::give_up(d.place, &mut row, &mut marks, time);
-    let a = f.answer;
-    match a {
-        GivenUp::Freed => print::word(b" freed"),
+    match settle::give_up(place.used, &mut row, &mut marks, time) {
+        GivenUp::Freed => {
+            place = sample::closed();
+            print::word(b" freed");
+        }
         GivenUp::Refused(r) => value(b" refused", paper::number(r)),
     }
-    let place = f.place;
     desk_after(place, &marks);
     let mut after = d;
     after.place = place;

@@ -4,6 +4,7 @@ mod descriptions;
 mod print;
 mod samples;
 mod shares;
+mod turn;
 mod units;
 
 fn main() {

@@ -2,6 +2,7 @@ pub mod Bits
 pub mod Stores
 pub mod Order
 pub mod Place
+pub mod Head
 pub mod Turns
 pub mod Kept
 pub mod Made

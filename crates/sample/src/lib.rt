@@ -3,14 +3,16 @@ use paper::limits::PARTS_MOST;
 use paper::limits::SAMPLE_MOST;
 use unit::Part;
 ghost use mathlib.Core.Path.{_≡_};
-ghost use Prim.Native.Nat.{_+_, _≤_, min};
-ghost use lib.ListN.{length, take, getD};
+ghost use mathlib.Core.List.{List};
+ghost use Prim.Native.Nat.{ℕ, _+_, _≤_, min};
+ghost use lib.ListN.{length, take, getD, replicate};
 ghost use lib.Seq.{sets};
 ghost use Rattle.laws.specs.Rows.{_⇒_⁏_, _and_, _<?_, _=?_};
 ghost use Rattle.laws.specs.Region.{part};
 ghost use Rattle.paper.specs.Limits.{sampleMost, partsMost};
 ghost use Rattle.joining.specs.Joining.{together, stringOf, ordered, sound};
 ghost use Rattle.sample.specs.Order.{follows};
+ghost use Rattle.sample.specs.Head.{headOf, whole, alone};
 ghost use Rattle.sample.specs.Place.{bare, has, piecesOf, closed, opened, alike, agrees, stands, repeats, oversize, kept, missing};
 
 // An open sample. U, SIDX and SLEN are those of its first TYPE 2 part, once `told`; bit THIS - 1 of `mask`, and place THIS - 1 of
@@ -34,10 +36,25 @@ pub struct Place {
     pub bytes: [u8; SAMPLE_MOST],
 }
 
+// The numbers of a place, by value.
+pub struct Head {
+    pub used: bool,
+    pub desk: usize,
+    pub time: u32,
+    pub total: usize,
+    pub sdur: usize,
+    pub told: bool,
+    pub u: usize,
+    pub sidx: usize,
+    pub slen: usize,
+    pub mask: u32,
+    pub filled: usize,
+}
+
 // How long a sample's string is, and all of it.
-struct Lengths {
-    string: usize,
-    sample: usize,
+pub struct Lengths {
+    pub string: usize,
+    pub sample: usize,
 }
 
 // A place of which nothing is kept.
@@ -70,16 +87,58 @@ pub fn closed() -> Place
     bare(false, 0, 0, 0, 0)
 }
 
-// The sample that part x opens, nothing kept yet.
-pub fn opened(desk: usize, time: u32, x: Part) -> Place
-    ensures { λ r. ⌜ r ≡ opened desk time x ⌝ }
+// The numbers of the closed record.
+pub fn closed_head() -> Head
+    ensures { λ r. ⌜ r ≡ headOf closed ⌝ }
 {
-    bare(true, desk, time, x.total, x.sdur)
+    numbers(false, 0, 0, 0, 0)
+}
+
+// The numbers of the sample that part x opens, nothing kept yet.
+pub fn opened(desk: usize, time: u32, x: Part) -> Head
+    ensures { λ r. ⌜ r ≡ headOf (opened desk time x) ⌝ }
+{
+    numbers(true, desk, time, x.total, x.sdur)
+}
+
+// The numbers of a place of which nothing is kept.
+fn numbers(used: bool, desk: usize, time: u32, total: usize, sdur: usize) -> Head
+    ensures { λ r. ⌜ r ≡ headOf (bare used desk time total sdur) ⌝ }
+{
+    Head {
+        used,
+        desk,
+        time,
+        total,
+        sdur,
+        told: false,
+        u: 0,
+        sidx: 0,
+        slen: 0,
+        mask: 0,
+        filled: 0,
+    }
+}
+
+// Nothing is kept any more: the arrays of a place are zeros.
+pub fn clear(
+    kinds: &mut [usize; PARTS_MOST],
+    starts: &mut [usize; PARTS_MOST],
+    lens: &mut [usize; PARTS_MOST],
+    bytes: &mut [u8; SAMPLE_MOST],
+)
+    ensures { λ _. ⌜ (now (kinds .exit) ≡ replicate partsMost 0) × (now (starts .exit) ≡ replicate partsMost 0)
+        × (now (lens .exit) ≡ replicate partsMost 0) × (now (bytes .exit) ≡ replicate sampleMost 0) ⌝ }
+{
+    *kinds = [0; PARTS_MOST];
+    *starts = [0; PARTS_MOST];
+    *lens = [0; PARTS_MOST];
+    *bytes = [0; SAMPLE_MOST];
 }
 
 // Whether part `this` is kept.
-pub fn has(p: Place, this: usize) -> bool
-    ensures { λ r. ⌜ r ≡ has p this ⌝ }
+pub fn has(p: Head, this: usize) -> bool
+    ensures { λ r. ⌜ r ≡ has (alone p) this ⌝ }
 {
     if this == 0 {
         return false;
@@ -91,8 +150,8 @@ pub fn has(p: Place, this: usize) -> bool
 }
 
 // Whether a TYPE 2 part says what an earlier one told.
-fn alike(p: Place, x: Part) -> bool
-    ensures { λ r. ⌜ r ≡ alike p x ⌝ }
+fn alike(p: Head, x: Part) -> bool
+    ensures { λ r. ⌜ r ≡ alike (alone p) x ⌝ }
 {
     if p.u != x.u {
         return false;
@@ -104,8 +163,8 @@ fn alike(p: Place, x: Part) -> bool
 }
 
 // Whether the part agrees with the sample.
-pub fn agrees(p: Place, x: Part) -> bool
-    ensures { λ r. ⌜ r ≡ agrees p x ⌝ }
+pub fn agrees(p: Head, x: Part) -> bool
+    ensures { λ r. ⌜ r ≡ agrees (alone p) x ⌝ }
 {
     if p.total != x.total {
         return false;
@@ -137,25 +196,44 @@ fn data_at(bytes: &[u8; SAMPLE_MOST], start: usize, len: usize) -> &[u8]
 }
 
 // Whether part `this` is kept, with that TYPE and data.
-fn stands(p: Place, this: usize, kind: usize, d: &[u8]) -> bool
-    ensures { λ r. ⌜ r ≡ stands p this kind (now (d .entry)) ⌝ }
+fn stands(
+    p: Head,
+    kinds: &[usize; PARTS_MOST],
+    starts: &[usize; PARTS_MOST],
+    lens: &[usize; PARTS_MOST],
+    bytes: &[u8; SAMPLE_MOST],
+    this: usize,
+    kind: usize,
+    d: &[u8],
+) -> bool
+    ensures { λ r. ⌜ r ≡ stands (whole p (now (kinds .entry)) (now (starts .entry)) (now (lens .entry)) (now (bytes .entry))) this kind
+        (now (d .entry)) ⌝ }
 {
     let k = octets::less(this, 1);
     if has(p, this) {
-        if at(&p.kinds, k) == kind {
-            let start = at(&p.starts, k);
-            let len = at(&p.lens, k);
-            return octets::same(data_at(&p.bytes, start, len), d);
+        if at(kinds, k) == kind {
+            let start = at(starts, k);
+            let len = at(lens, k);
+            return octets::same(data_at(bytes, start, len), d);
         }
     }
     false
 }
 
 // Whether the part, with the data d, is a repeat.
-pub fn repeats(p: Place, x: Part, d: &[u8]) -> bool
-    ensures { λ r. ⌜ r ≡ repeats p x (now (d .entry)) ⌝ }
+pub fn repeats(
+    p: Head,
+    kinds: &[usize; PARTS_MOST],
+    starts: &[usize; PARTS_MOST],
+    lens: &[usize; PARTS_MOST],
+    bytes: &[u8; SAMPLE_MOST],
+    x: Part,
+    d: &[u8],
+) -> bool
+    ensures { λ r. ⌜ r ≡ repeats (whole p (now (kinds .entry)) (now (starts .entry)) (now (lens .entry)) (now (bytes .entry))) x
+        (now (d .entry)) ⌝ }
 {
-    if stands(p, x.this, x.kind, d) {
+    if stands(p, kinds, starts, lens, bytes, x.this, x.kind, d) {
         return agrees(p, x);
     }
     false
@@ -172,8 +250,8 @@ fn below(counts: bool, a: usize, b: usize) -> bool
 }
 
 // Refusal 5, for the part with n bytes of data.
-pub fn oversize(p: Place, x: Part, n: usize) -> bool
-    ensures { λ r. ⌜ r ≡ oversize p x n ⌝ }
+pub fn oversize(p: Head, x: Part, n: usize) -> bool
+    ensures { λ r. ⌜ r ≡ oversize (alone p) x n ⌝ }
 {
     if below(x.kind == 2, SAMPLE_MOST, x.slen) {
         return true;
@@ -207,16 +285,19 @@ fn grown(a: usize, b: usize) -> usize
     a + b
 }
 
-// The bytes d over those of a place, from `at` on.
-fn put_in(bytes: &mut [u8; SAMPLE_MOST], at: usize, d: &[u8])
-    ensures { λ _. ⌜ now (bytes .exit) ≡ sets (now (bytes .entry)) at (now (d .entry)) ⌝ }
-{
-    octets::put(bytes, at, d);
-}
-
 // The part, with the data d, is kept; the first of TYPE 2 tells U, SIDX and SLEN.
-pub fn keep(mut p: Place, x: Part, d: &[u8]) -> Place
-    ensures { λ r. ⌜ r ≡ kept p x (now (d .entry)) ⌝ }
+pub fn keep(
+    mut p: Head,
+    kinds: &mut [usize; PARTS_MOST],
+    starts: &mut [usize; PARTS_MOST],
+    lens: &mut [usize; PARTS_MOST],
+    bytes: &mut [u8; SAMPLE_MOST],
+    x: Part,
+    d: &[u8],
+) -> Head
+    ensures { λ r. ⌜ whole r (now (kinds .exit)) (now (starts .exit)) (now (lens .exit)) (now (bytes .exit))
+        ≡ kept (whole p (now (kinds .entry)) (now (starts .entry)) (now (lens .entry)) (now (bytes .entry))) x
+        (now (d .entry)) ⌝ }
 {
     let this = x.this;
     if this == 0 {
@@ -229,10 +310,10 @@ pub fn keep(mut p: Place, x: Part, d: &[u8]) -> Place
     let at = p.filled;
     p.mask = p.mask | 1 << k;
     p.filled = grown(at, d.len());
-    p.kinds[k] = x.kind;
-    p.starts[k] = at;
-    p.lens[k] = d.len();
-    put_in(&mut p.bytes, at, d);
+    kinds[k] = x.kind;
+    starts[k] = at;
+    lens[k] = d.len();
+    octets::put(bytes, at, d);
     if p.told {
         return p;
     }
@@ -246,8 +327,8 @@ pub fn keep(mut p: Place, x: Part, d: &[u8]) -> Place
 }
 
 // How many parts are still missing.
-pub fn missing(p: Place) -> usize
-    ensures { λ r. ⌜ r ≡ missing p ⌝ }
+pub fn missing(p: Head) -> usize
+    ensures { λ r. ⌜ r ≡ missing (alone p) ⌝ }
 {
     octets::less(p.total, u32::count_ones(p.mask) as usize)
 }
@@ -312,21 +393,29 @@ fn of_string(kind: usize, n: usize) -> usize
 }
 
 // How long the parts in THIS order are, put together.
-fn measure(p: Place) -> Lengths
-    ensures { λ r. ⌜ (r .string ≡ length (stringOf (piecesOf p))) × (r .sample ≡ length (together (piecesOf p))) ⌝ }
+pub fn measure(
+    p: Head,
+    kinds: &[usize; PARTS_MOST],
+    starts: &[usize; PARTS_MOST],
+    lens: &[usize; PARTS_MOST],
+    bytes: &[u8; SAMPLE_MOST],
+) -> Lengths
+    ensures { λ r. ⌜ (r .string
+        ≡ length (stringOf (piecesOf (whole p (now (kinds .entry)) (now (starts .entry)) (now (lens .entry)) (now (bytes .entry))))))
+        × (r .sample
+        ≡ length (together (piecesOf (whole p (now (kinds .entry)) (now (starts .entry)) (now (lens .entry)) (now (bytes .entry)))))) ⌝ }
 {
     let n = octets::least(p.total, PARTS_MOST);
-    let kinds = p.kinds;
-    let starts = p.starts;
-    let lens = p.lens;
-    let bytes = p.bytes;
+    let kinds = *kinds;
+    let starts = *starts;
+    let lens = *lens;
     let mut string = 0;
     let mut sample = 0;
     let mut k = 0;
     while k < n {
         let start = starts[k];
         let len = lens[k];
-        let many = data_at(&bytes, start, len).len();
+        let many = data_at(bytes, start, len).len();
         string += of_string(kinds[k], many);
         sample += many;
         k += 1;
@@ -334,46 +423,40 @@ fn measure(p: Place) -> Lengths
     Lengths { string, sample }
 }
 
-// How long the string is.
-pub fn string_len(p: Place) -> usize
-    ensures { λ r. ⌜ r ≡ length (stringOf (piecesOf p)) ⌝ }
-{
-    measure(p).string
-}
-
-// How long the sample is.
-pub fn sample_len(p: Place) -> usize
-    ensures { λ r. ⌜ r ≡ length (together (piecesOf p)) ⌝ }
-{
-    measure(p).sample
-}
-
-// Whether the complete sample is joined, else it is spoiled.
-pub fn is_sound(p: Place) -> bool
-    ensures { λ r. ⌜ r ≡ sound (p .slen) (piecesOf p) ⌝ }
+// Whether the complete sample, so long, is joined, else it is spoiled.
+pub fn is_sound(p: Head, kinds: &[usize; PARTS_MOST], many: usize) -> bool
+    ensures { λ r. ⌜ ((starts lens bytes : List ℕ)
+        → many ≡ length (together (piecesOf (whole p (now (kinds .entry)) starts lens bytes)))
+        → r ≡ sound (p .slen) (piecesOf (whole p (now (kinds .entry)) starts lens bytes))) ⌝ }
 {
     let n = octets::least(p.total, PARTS_MOST);
-    let kinds = p.kinds;
-    if in_order(&kinds, n) {
-        return sample_len(p) == p.slen;
+    if in_order(kinds, n) {
+        return many == p.slen;
     }
     false
 }
 
 // The parts in THIS order, to the front of the output; what lies behind them stays.
-pub fn put_together(p: Place, out: &mut [u8])
-    ensures { λ _. ⌜ now (out .exit) ≡ sets (now (out .entry)) 0 (together (piecesOf p)) ⌝ }
+pub fn put_together(
+    p: Head,
+    starts: &[usize; PARTS_MOST],
+    lens: &[usize; PARTS_MOST],
+    bytes: &[u8; SAMPLE_MOST],
+    out: &mut [u8],
+)
+    ensures { λ _. ⌜ ((kinds : List ℕ) → now (out .exit)
+        ≡ sets (now (out .entry)) 0
+        (together (piecesOf (whole p kinds (now (starts .entry)) (now (lens .entry)) (now (bytes .entry)))))) ⌝ }
 {
     let n = octets::least(p.total, PARTS_MOST);
-    let starts = p.starts;
-    let lens = p.lens;
-    let bytes = p.bytes;
+    let starts = *starts;
+    let lens = *lens;
     let mut at = 0;
     let mut k = 0;
     while k < n {
         let start = starts[k];
         let len = lens[k];
-        let data = data_at(&bytes, start, len);
+        let data = data_at(bytes, start, len);
         octets::put(out, at, data);
         at += data.len();
         k += 1;

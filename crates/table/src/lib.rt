@@ -1,19 +1,22 @@
 // The lent table of places: thin functions over its first m places. What they look at decides nothing here.
+use paper::Name;
 use paper::limits::DESKS_MOST;
+use sample::Head;
 use sample::Place;
 ghost use mathlib.Core.Path.{_≡_};
 ghost use mathlib.Core.List.{[]};
 ghost use Prim.Native.Nat.{_+_, _<_, _^_};
-ghost use lib.ListN.{length, take, getD};
+ghost use lib.ListN.{length, take, getD, set};
 ghost use Rattle.laws.specs.Rows.{_and_, _<?_, _=?_};
-ghost use Rattle.laws.specs.Table.{bit};
-ghost use Rattle.table.specs.Table.{seen, loaded, stored, cleared};
-ghost use Rattle.table.specs.Turn.{onward, counted, turned};
+ghost use Rattle.laws.specs.Table.{bit, seek, count};
+ghost use Rattle.sample.specs.Head.{headOf};
+ghost use Rattle.sample.specs.Place.{closed};
+ghost use Rattle.memory.specs.Table.{vacant, mine, isAt};
+ghost use Rattle.table.specs.Table.{seen, stored, cleared, headed};
+ghost use Rattle.table.specs.Turn.{counted, turned};
 
-// What one pass sees: the place of a desk and time, the lowest free place, and each desk's open samples.
+// What one pass over all desks sees: each desk's open samples.
 pub struct Seen {
-    pub at: usize,
-    pub free: usize,
     pub opens: [usize; DESKS_MOST],
 }
 
@@ -34,27 +37,78 @@ fn is_below(i: usize, m: usize, n: usize) -> bool
     false
 }
 
-// Whether a place is the sample of a desk and time.
-fn is_at(used: bool, own: usize, when: u32, desk: usize, time: u32) -> bool
-    ensures { λ r. ⌜ r ≡ (used and own =? desk and when =? time) ⌝ }
+// Whether a place is the sample of a name: the time is compared first, since it differs most often.
+fn is_of(when: u32, used: bool, own: usize, who: Name) -> bool
+    ensures { λ r. ⌜ r ≡ (used and own =? who .desk and when =? who .time) ⌝ }
 {
-    if used {
-        if own == desk {
-            return when == time;
+    let desk = who.desk;
+    let time = who.time;
+    if when == time {
+        if used {
+            return own == desk;
         }
     }
     false
 }
 
-// The index of the first hit, once place i is looked at too.
-fn onward(at: usize, i: usize, hit: bool) -> usize
-    requires { ⌜ i + 1 < 2 ^ 64 ⌝ }
-    ensures { λ r. ⌜ r ≡ onward at i hit ⌝ }
+// The place of a name among the first m; how many there are where it has none.
+pub fn find(t: &[Place], m: usize, who: Name) -> usize
+    ensures { λ r. ⌜ r ≡ seek (isAt (who .desk) (who .time)) (take m (now (t .entry))) ⌝ }
 {
-    if hit {
-        return at;
+    let n = octets::least(t.len(), m);
+    let mut i = 0;
+    while i < n {
+        let p = &t[i];
+        if is_of(p.time, p.used, p.desk, who) {
+            break;
+        }
+        i += 1;
     }
-    if at == i { i + 1 } else { at }
+    i
+}
+
+// The lowest free place of the first m; how many there are where none is free.
+pub fn lowest(t: &[Place], m: usize) -> usize
+    ensures { λ r. ⌜ r ≡ seek vacant (take m (now (t .entry))) ⌝ }
+{
+    let n = octets::least(t.len(), m);
+    let mut i = 0;
+    while i < n {
+        let p = &t[i];
+        if !p.used {
+            break;
+        }
+        i += 1;
+    }
+    i
+}
+
+// One where a place is the desk's.
+fn one(used: bool, own: usize, who: Name) -> usize
+    ensures { λ r. ⌜ r ≡ bit (used and own =? who .desk) ⌝ }
+{
+    let desk = who.desk;
+    if used {
+        if own == desk {
+            return 1;
+        }
+    }
+    0
+}
+
+// How many of the first m places are the desk's.
+pub fn count(t: &[Place], m: usize, who: Name) -> usize
+    ensures { λ r. ⌜ r ≡ count (mine (who .desk)) (take m (now (t .entry))) ⌝ }
+{
+    let n = octets::least(t.len(), m);
+    let mut c = 0;
+    let mut i = 0;
+    while i < n {
+        let p = &t[i];
+        c += one(p.used, p.desk, who);
+        i += 1;
+    }
+    c
 }
 
 // The count of desk e, with one more of desk own.
@@ -85,62 +139,47 @@ fn counted(opens: [usize; DESKS_MOST], used: bool, own: usize) -> [usize; DESKS_
     opens
 }
 
-// What is seen once place i, of which only these three fields count, is looked at too.
-fn turn(s: Seen, i: usize, used: bool, own: usize, when: u32, desk: usize, time: u32) -> Seen
-    requires { ⌜ (i + 1 < 2 ^ 64) × (getD (s .opens) own 0 + 1 < 2 ^ 64) ⌝ }
-    ensures { λ r. ⌜ r ≡ turned desk time s i used own when ⌝ }
+// What is seen once a place, of which only these two fields count, is looked at too.
+fn turn(s: Seen, used: bool, own: usize) -> Seen
+    requires { ⌜ getD (s .opens) own 0 + 1 < 2 ^ 64 ⌝ }
+    ensures { λ r. ⌜ r ≡ turned s used own ⌝ }
 {
     let opens = s.opens;
     Seen {
-        at: onward(s.at, i, is_at(used, own, when, desk, time)),
-        free: onward(s.free, i, !used),
         opens: counted(opens, used, own),
     }
 }
 
 // What is seen before the first place.
 fn none_seen() -> Seen
-    ensures { λ r. ⌜ r ≡ seen 0 0 [] ⌝ }
+    ensures { λ r. ⌜ r ≡ seen [] ⌝ }
 {
     Seen {
-        at: 0,
-        free: 0,
         opens: [0; DESKS_MOST],
     }
 }
 
 // One pass over the first m places.
-pub fn scan(t: &[Place], m: usize, desk: usize, time: u32) -> Seen
-    ensures { λ r. ⌜ r ≡ seen desk time (take m (now (t .entry))) ⌝ }
+pub fn scan(t: &[Place], m: usize) -> Seen
+    ensures { λ r. ⌜ r ≡ seen (take m (now (t .entry))) ⌝ }
 {
     let n = octets::least(t.len(), m);
     let mut s = none_seen();
     let mut i = 0;
     while i < n {
         let p = &t[i];
-        s = turn(s, i, p.used, p.desk, p.time, desk, time);
+        s = turn(s, p.used, p.desk);
         i += 1;
     }
     s
 }
 
-// Place i of the first m; a closed one past them.
-pub fn load(t: &[Place], m: usize, i: usize) -> Place
-    ensures { λ r. ⌜ r ≡ loaded m i (now (t .entry)) ⌝ }
+// Closes place i of the first m; past them, nothing.
+pub fn free(t: &mut [Place], m: usize, i: usize)
+    ensures { λ _. ⌜ now (t .exit) ≡ stored m i closed (now (t .entry)) ⌝ }
 {
     if is_below(i, m, t.len()) {
-        t[i]
-    } else {
-        sample::closed()
-    }
-}
-
-// Stores p as place i of the first m; past them, nothing.
-pub fn store(t: &mut [Place], m: usize, i: usize, p: Place)
-    ensures { λ _. ⌜ now (t .exit) ≡ stored m i p (now (t .entry)) ⌝ }
-{
-    if is_below(i, m, t.len()) {
-        t[i] = p;
+        t[i] = sample::closed();
     }
 }
 
@@ -149,10 +188,49 @@ pub fn clear(t: &mut [Place], m: usize)
     ensures { λ _. ⌜ now (t .exit) ≡ cleared m (now (t .entry)) ⌝ }
 {
     let n = octets::least(t.len(), m);
-    let p = sample::closed();
     let mut i = 0;
     while i < n {
-        store(t, n, i, p);
+        free(t, n, i);
         i += 1;
     }
+}
+
+// The numbers of place i, by value.
+pub fn head(t: &[Place], i: usize) -> Head
+    requires { ⌜ i < length (now t) ⌝ }
+    ensures { λ r. ⌜ r ≡ headOf (getD (now (t .entry)) i closed) ⌝ }
+{
+    let p = &t[i];
+    Head {
+        used: p.used,
+        desk: p.desk,
+        time: p.time,
+        total: p.total,
+        sdur: p.sdur,
+        told: p.told,
+        u: p.u,
+        sidx: p.sidx,
+        slen: p.slen,
+        mask: p.mask,
+        filled: p.filled,
+    }
+}
+
+// Stores the numbers of place i; its arrays stay.
+pub fn set_head(t: &mut [Place], i: usize, h: Head)
+    requires { ⌜ i < length (now t) ⌝ }
+    ensures { λ _. ⌜ now (t .exit) ≡ set (now (t .entry)) i (headed h (getD (now (t .entry)) i closed)) ⌝ }
+{
+    let p = &mut t[i];
+    p.used = h.used;
+    p.desk = h.desk;
+    p.time = h.time;
+    p.total = h.total;
+    p.sdur = h.sdur;
+    p.told = h.told;
+    p.u = h.u;
+    p.sidx = h.sidx;
+    p.slen = h.slen;
+    p.mask = h.mask;
+    p.filled = h.filled;
 }

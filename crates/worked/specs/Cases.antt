@@ -23,7 +23,8 @@ use Rattle.writer.specs.declared.Written.{Written}
 use Rattle.writer.specs.declared.Written.the-variants as W
 use Rattle.writer.specs.Cut.{cuts, cutsWithin, modified, pieces}
 use Rattle.writer.specs.Write.{Caption, caption, long, count, partUnit, payloadData, payloadUnit, unsized, illFormed, unwritable, uncut, after, written}
-use Rattle.relay.specs.Relay.{Tables, standsAt, improper, stranger, short, freshMarks, ready, setUp, ordered, receivedAt}
+use Rattle.memory.specs.declared.Started.the-variants.{Ready}
+use Rattle.memory.specs.Relay.{Tables, standsAt, improper, stranger, short, ownMarks, setUp, ordered, receivedAmong}
 use Rattle.good.specs.Good.{ready-exactly}
 use Rattle.good.specs.Fresh.{Exact, exactTables, set-up-exact}
 use Rattle.peace.specs.Run.{Call, receive, Got, answered, run}
@@ -49,7 +50,7 @@ gotten gs = map (λ (g : ℕ × Got). g .1) gs
 
 abbrev pub Holds : Case → Type 0
 Holds (plays desks calls gets) =
-    (s : Tables) → setUp desks s .answer ≡ ready desks → Exact desks s → gotten (run desks (setUp desks s .tables) calls) ≡ gets
+    (s : Tables) → setUp desks s .answer ≡ Ready → Exact desks s → gotten (run (setUp desks s .tables) calls) ≡ gets
 Holds (writes many M k w out) = written (letters many) M k lentOutput ≡ after w out
 
 abbrev pub All : List Case → Type 0
@@ -155,7 +156,7 @@ cases =
 
 -- ---- what the rules compute to in the memory that set-up makes
 abbrev gets : (desks : ℕ) → List Call → List Got
-gets desks calls = gotten (run desks (exactTables desks) calls)
+gets desks calls = gotten (run (exactTables desks) calls)
 
 abbrev Computes : Case → Type 0
 Computes (plays desks calls x) = gets desks calls ≡ x
@@ -166,13 +167,17 @@ so : (c : Case) → Computes c ⊎ Holds c → Holds c
 so c (inr h) = h
 so (plays desks calls x) (inl e) =
     λ s p q.
-    subst (λ (t : Tables). gotten (run desks t calls) ≡ x)
+    subst (λ (t : Tables). gotten (run t calls) ≡ x)
     (sym (set-up-exact desks s (or-none _ _ (ready-exactly desks s .0 p) .0) q)) e
 so (writes many M k w out) (inl e) = e
 
 -- cases 1 and 5, which no relay plays that refuses everything or has a constant answer
 one-and-five : Computes case-1 × Computes case-5
-unfolding _⇒_⁏_ _<?_ _=?_ readOf broken judged fieldsOf least badPart badWhole bare outside has agrees stands repeats oversize toldOf telling laid kept missing piecesIn piecesOf among laterPart sampleOf conflicts six usedUp wholeTaken completed joining received standsAt improper stranger short freshMarks ordered receivedAt ones markedRow markedUsed J.laters J.going J.ordered J.sound flatten partHead written count uncut unwritable illFormed unsized wellFormed wellWithin long partUnit payloadData payloadUnit pieces modified cuts cutsWithin reach reachWithin character scalar utf8 encoded begins decoded8 decoded
+unfolding _⇒_⁏_ _<?_ _=?_ readOf broken judged fieldsOf least badPart badWhole bare outside has agrees stands repeats oversize toldOf
+    telling laid kept missing piecesIn piecesOf among laterPart sampleOf conflicts six usedUp wholeTaken completed joining received
+    standsAt improper stranger short ownMarks ordered receivedAmong ones markedRow markedUsed J.laters J.going J.ordered J.sound flatten
+    partHead written count uncut unwritable illFormed unsized wellFormed wellWithin long partUnit payloadData payloadUnit pieces
+    modified cuts cutsWithin reach reachWithin character scalar utf8 encoded begins decoded8 decoded
 one-and-five = (refl, refl)
 
 -- case 9 by laws, for its stores are not computed; `describing` says the same for any memory that is long enough
@@ -189,7 +194,11 @@ all-so [] e = tt
 all-so (c ∷ cs) e = (so c (e .0), all-so cs (e .1))
 
 each-holds : AllHold cases
-unfolding _⇒_⁏_ _<?_ _=?_ readOf broken judged fieldsOf least badPart badWhole bare outside has agrees stands repeats oversize toldOf telling laid kept missing piecesIn piecesOf among laterPart sampleOf conflicts six usedUp wholeTaken completed joining received standsAt improper stranger short freshMarks ordered receivedAt ones markedRow markedUsed J.laters J.going J.ordered J.sound flatten partHead written count uncut unwritable illFormed unsized wellFormed wellWithin long partUnit payloadData payloadUnit pieces modified cuts cutsWithin reach reachWithin character scalar utf8 encoded begins decoded8 decoded
+unfolding _⇒_⁏_ _<?_ _=?_ readOf broken judged fieldsOf least badPart badWhole bare outside has agrees stands repeats oversize toldOf
+    telling laid kept missing piecesIn piecesOf among laterPart sampleOf conflicts six usedUp wholeTaken completed joining received
+    standsAt improper stranger short ownMarks ordered receivedAmong ones markedRow markedUsed J.laters J.going J.ordered J.sound flatten
+    partHead written count uncut unwritable illFormed unsized wellFormed wellWithin long partUnit payloadData payloadUnit pieces
+    modified cuts cutsWithin reach reachWithin character scalar utf8 encoded begins decoded8 decoded
 each-holds = (
   inl (one-and-five .0),
   (

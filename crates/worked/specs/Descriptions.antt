@@ -23,7 +23,8 @@ use Rattle.style.specs.Slots.{in-window-of, held-of}
 use Rattle.style.specs.Window.{only-window, described-as, stored-held, stored-shown, still-held, never-changed, forgotten-gone, only-slots}
 use Rattle.desk.specs.declared.Shares.{Shares}
 use Rattle.desk.specs.Desk.{After, says, descriptionTaken, received}
-use Rattle.relay.specs.Relay.{Tables, ready, setUp, ordered}
+use Rattle.memory.specs.declared.Started.the-variants.{Ready}
+use Rattle.memory.specs.Relay.{Tables, setUp, ordered}
 use Rattle.good.specs.Good.{set-up-good}
 use Rattle.good.specs.View.{View, view, ownIn, seenAfter, receives}
 use Rattle.good.specs.Fresh.{freshView, set-up-view}
@@ -171,8 +172,8 @@ pub record Case9 (b : ℕ) (ten : List ℕ) : Type 0 where
   pub ten-shows : (store : List ℕ) → window * recordSize ≤ length store → S.shown [] (store₂ store b) (newest₂ store b) 10 ≡ ten
 
 -- from set-up, in any lent memory that is long enough, whatever all others do
-pub describing : (b : ℕ) (ten : List ℕ) → Case9 b ten → (n desk : ℕ) → desk < n → (s : Tables) → setUp n s .answer ≡ ready n
-    → (xs : List Call) → only desk xs ≡ describes desk b → to desk (run n (setUp n s .tables) xs) ≡ describes-gets ten
+pub describing : (b : ℕ) (ten : List ℕ) → Case9 b ten → (n desk : ℕ) → desk < n → (s : Tables) → setUp n s .answer ≡ Ready
+    → (xs : List Call) → only desk xs ≡ describes desk b → to desk (run (setUp n s .tables) xs) ≡ describes-gets ten
 describing b ten c n desk h s e xs q =
     let t = setUp n s .tables in
     let f : Frugal (view n desk t) (only desk xs) = subst (Frugal (view n desk t)) (sym q) (frugal desk b (c .reads) (view n desk t)) in

@@ -1,74 +1,66 @@
-//! How fast the proved relay is, beside the second one and a plain copy of the same bytes, in one run.
+//! How fast the proved relay is, beside the second one, the rival, a plain copy of the same bytes
+//! and, if one is named, an old version of itself: all in one run. And how much stack it takes.
 
+mod compiled;
+mod enter;
+mod hears;
+mod library;
 mod load;
+mod stack;
 
+use compiled::Compiled;
+use hears::{Copied, Hears};
+use library::Library;
 use load::{Call, Load};
-use std::hint::black_box;
+use rival::Rival;
+use second::Second;
+use std::env;
+use std::ffi::OsString;
+use std::path::Path;
+use std::process::ExitCode;
 use std::time::Instant;
 
-/// Units of one measurement, about.
-const UNITS: usize = 10_000;
+const USAGE: &str = "\
+bench [--old LIBRARY] [--runs RUNS]
 
-/// Measurements of each; the quickest counts.
-const TRIES: usize = 41;
+Plays the same units through the proved relay, the second one, the rival and a
+plain copy, by turns, and prints the nanoseconds a unit of each one's quickest
+run, and how many times as long as the others the proved relay takes. Then the
+bytes of stack that its calls take.
 
-/// Something that hears units; answers a number that tells outcomes apart.
-trait Hears {
-    fn fresh(desks: usize) -> Self;
-    fn hear(&mut self, desk: usize, time: u32, unit: &[u8], out: &mut [u8]) -> usize;
+  --old LIBRARY  an earlier libexport.a (turned into a shared object by cc) or a
+                 shared object made of one: a column of its own in the same run.
+                 SPINDLEFIG_OLD=LIBRARY in the environment does the same
+  --runs RUNS    short runs of each (201)";
+
+/// Units of one run, about, and units played before its clock starts.
+const UNITS: usize = 2048;
+const WARMING: usize = 512;
+
+const RUNS: usize = 201;
+
+struct Options {
+    old: Option<OsString>,
+    runs: usize,
 }
 
-struct Proved(spindlefig::Relay);
-
-impl Hears for Proved {
-    fn fresh(desks: usize) -> Proved {
-        Proved(spindlefig::Relay::set_up(desks).expect("1 to 8 desks"))
+/// The options, or nothing where the words are not understood.
+fn options(words: &[OsString]) -> Option<Options> {
+    let mut options = Options {
+        old: env::var_os("SPINDLEFIG_OLD").filter(|path| !path.is_empty()),
+        runs: RUNS,
+    };
+    for pair in words.chunks(2) {
+        let [name, value] = pair else {
+            return None;
+        };
+        match name.to_str()? {
+            "--old" => options.old = Some(value.clone()),
+            "--runs" => options.runs = value.to_str()?.parse().ok().filter(|runs| *runs > 0)?,
+            _ => return None,
+        }
     }
-
-    fn hear(&mut self, desk: usize, time: u32, unit: &[u8], out: &mut [u8]) -> usize {
-        use spindlefig::Outcome::*;
-        let answer = self.0.receive(desk, time, unit, out);
-        answer.used
-            + match answer.outcome {
-                Whole(facts) | Joined(facts) => 1000 * facts.sample,
-                Refused(why) => 100 * usize::from(why.number()),
-                _ => 0,
-            }
-    }
-}
-
-struct Second(second::Second);
-
-impl Hears for Second {
-    fn fresh(desks: usize) -> Second {
-        Second(second::Second::set_up(desks).expect("1 to 8 desks"))
-    }
-
-    fn hear(&mut self, desk: usize, time: u32, unit: &[u8], out: &mut [u8]) -> usize {
-        use second::Outcome::*;
-        let answer = self.0.receive(desk, time, unit, out);
-        answer.used
-            + match answer.outcome {
-                Whole(facts) | Joined(facts) => 1000 * facts.sample,
-                Refused(why) => 100 * usize::from(why),
-                _ => 0,
-            }
-    }
-}
-
-/// Copies the bytes to the output, and does nothing else.
-struct Copied;
-
-impl Hears for Copied {
-    fn fresh(_: usize) -> Copied {
-        Copied
-    }
-
-    fn hear(&mut self, _: usize, _: u32, unit: &[u8], out: &mut [u8]) -> usize {
-        out[..unit.len()].copy_from_slice(unit);
-        black_box(out);
-        unit.len()
-    }
+    Some(options)
 }
 
 fn play<H: Hears>(hearer: &mut H, calls: &[Call], from: u32, out: &mut [u8]) -> usize {
@@ -79,55 +71,122 @@ fn play<H: Hears>(hearer: &mut H, calls: &[Call], from: u32, out: &mut [u8]) -> 
 }
 
 /// Nanoseconds a unit, and the sum of all answers.
-fn timed<H: Hears>(load: &Load) -> (f64, usize) {
+fn timed<H: Hears>(load: &Load, mut hearer: H) -> (f64, usize) {
     let mut out = vec![0; 2048];
-    let mut hearer = H::fresh(load.desks);
-    play(&mut hearer, &load.before, 0, &mut out);
-    let rounds = (UNITS / load.round.len()).max(1);
-    let mut sum = 0;
-    let start = Instant::now();
-    for round in 0..rounds {
+    let rounds = |units: usize| (units / load.round.len()).max(1);
+    let (warming, counted) = (rounds(WARMING), rounds(UNITS));
+    let mut sum = play(&mut hearer, &load.before, 0, &mut out);
+    for round in 0..warming {
         sum += play(&mut hearer, &load.round, round as u32 * load.span, &mut out);
     }
-    let units = rounds * load.round.len();
+    let start = Instant::now();
+    for round in warming..warming + counted {
+        sum += play(&mut hearer, &load.round, round as u32 * load.span, &mut out);
+    }
+    let units = counted * load.round.len();
     (start.elapsed().as_nanos() as f64 / units as f64, sum)
 }
 
-/// Measures one load for everyone, by turns, and prints its line.
-fn measure(load: &Load) {
-    let mut best = [f64::MAX; 3];
-    for _ in 0..TRIES {
-        let (proved, answers) = timed::<Proved>(load);
-        let (second, same) = timed::<Second>(load);
-        assert_eq!(answers, same, "{}: the two relays differ", load.name);
-        let (copied, _) = timed::<Copied>(load);
-        for (b, t) in best.iter_mut().zip([proved, second, copied]) {
-            *b = b.min(t);
-        }
-    }
-    let [proved, second, copied] = best;
-    println!(
-        "{} {:>6} {:>8.0} {:>9.2} {:>8.0} {:>8.0} {:>8.1} {:>8.1}",
-        load.name,
-        load.bytes() / load.round.len(),
-        proved,
-        1e3 / proved,
-        second,
-        copied,
-        proved / second,
-        proved / copied,
-    );
+/// Those that are measured, in the order of the columns.
+const NAMES: [&str; 5] = ["proved", "second", "rival", "memcpy", "old"];
+
+/// One run of everyone, in nanoseconds a unit; for those that are not there, nothing.
+fn turn(load: &Load, proved: &Library, old: Option<&Library>) -> [Option<f64>; 5] {
+    let desks = load.desks;
+    let (proved, answers) = timed(load, Compiled::fresh(proved, desks));
+    let same = |name: &str, (time, sum): (f64, usize)| {
+        assert_eq!(answers, sum, "{}: {name} answers otherwise", load.name);
+        Some(time)
+    };
+    let second = Second::set_up(desks).expect("1 to 8 desks");
+    let rival = Rival::set_up(desks).expect("1 to 8 desks");
+    [
+        Some(proved),
+        same("second", timed(load, second)),
+        same("rival", timed(load, rival)),
+        Some(timed(load, Copied).0),
+        old.and_then(|old| same("old", timed(load, Compiled::fresh(old, desks)))),
+    ]
 }
 
-fn main() {
-    println!("Nanoseconds a unit, the quickest of {TRIES} runs of about {UNITS} units; all buffers and tables were");
-    println!("cleared first. M/s is a million units a second of the proved relay; the ratios are its time to the others'.");
-    println!();
-    println!(
-        "{:<22} n {:<5} {:>6} {:>8} {:>9} {:>8} {:>8} {:>8} {:>8}",
-        "units", "table", "bytes", "proved", "M/s", "second", "memcpy", "/second", "/memcpy"
-    );
-    for load in load::loads() {
-        measure(&load);
+/// The quickest run of each.
+fn quickest(load: &Load, proved: &Library, old: Option<&Library>, runs: usize) -> [Option<f64>; 5] {
+    (0..runs)
+        .map(|_| turn(load, proved, old))
+        .reduce(|best, times| {
+            let pair = |i: usize| Some(f64::min(best[i]?, times[i]?));
+            [pair(0), pair(1), pair(2), pair(3), pair(4)]
+        })
+        .expect("there is a run")
+}
+
+/// Measures one load for everyone, and prints its line.
+fn measure(load: &Load, proved: &Library, old: Option<&Library>, runs: usize) {
+    let times = quickest(load, proved, old, runs);
+    print!("{} {:>6}", load.name, load.bytes() / load.round.len());
+    for time in times.iter().flatten() {
+        print!(" {time:>7.0}");
     }
+    for other in [times[1], times[2], times[4]].iter().flatten() {
+        print!(" {:>8.2}", times[0].unwrap_or(f64::NAN) / other);
+    }
+    println!();
+}
+
+fn print_times(proved: &Library, old: Option<&Library>, runs: usize) {
+    println!("Nanoseconds a unit, the quickest of {runs} runs of about {UNITS} units, all by turns; tables are made anew and");
+    println!("{WARMING} units played before each. The ratios are the proved relay's time to the others'.");
+    println!();
+    print!("{:<22} n {:<5} {:>6}", "units", "table", "bytes");
+    let there = if old.is_some() { 5 } else { 4 };
+    for name in &NAMES[..there] {
+        print!(" {name:>7}");
+    }
+    for name in ["/second", "/rival", "/old"].iter().take(there - 2) {
+        print!(" {name:>8}");
+    }
+    println!();
+    for load in load::loads() {
+        measure(&load, proved, old, runs);
+    }
+}
+
+fn print_stack(proved: &Library, old: Option<&Library>) {
+    println!();
+    print!("{:<37} {:>7}", "bytes of stack, a call", "proved");
+    println!("{}", if old.is_some() { "     old" } else { "" });
+    for (case, name) in stack::CASES {
+        print!("{name:<37}");
+        for library in [Some(proved), old].into_iter().flatten() {
+            match stack::taken(library, case) {
+                Some(bytes) => print!(" {bytes:>7}"),
+                None => print!(" {:>7}", "few"),
+            }
+        }
+        println!();
+    }
+}
+
+fn main() -> ExitCode {
+    let words: Vec<OsString> = env::args_os().skip(1).collect();
+    if words.iter().any(|word| word == "--help") {
+        println!("{USAGE}");
+        return ExitCode::SUCCESS;
+    }
+    let Some(options) = options(&words) else {
+        eprintln!("{USAGE}");
+        return ExitCode::from(2);
+    };
+    let old = options.old.map(|path| Library::old(Path::new(&path)));
+    let old = match old.transpose() {
+        Ok(old) => old,
+        Err(wrong) => {
+            eprintln!("bench: {wrong}");
+            return ExitCode::from(2);
+        }
+    };
+    let proved = Library::linked();
+    print_times(&proved, old.as_ref(), options.runs);
+    print_stack(&proved, old.as_ref());
+    ExitCode::SUCCESS
 }

@@ -1,6 +1,7 @@
 //! A run of calls, and how each call is written in a log.
 
 use crate::opinion::Caption;
+use second::Lent;
 use std::fmt::{self, Display, Formatter};
 
 /// The least output that every call takes.
@@ -53,9 +54,42 @@ pub enum Call {
         modifiers: Vec<u8>,
         at: usize,
     },
+    /// A receive, give-up or look with other memory than set-up left.
+    Lent {
+        lent: Lent,
+        call: Box<Call>,
+    },
 }
 
 impl Call {
+    /// The desk and the memory that this call has, where it is lent no more than it takes: give-up
+    /// takes no stores, and look takes marks and stores only.
+    pub fn takes(&self, lent: Lent) -> Option<(usize, Lent)> {
+        let any = usize::MAX;
+        match self {
+            Call::Receive { desk, .. } => Some((*desk, lent)),
+            Call::GiveUp { desk, .. } => Some((
+                *desk,
+                Lent {
+                    stores: any,
+                    ..lent
+                },
+            )),
+            Call::Look { desk, .. } => {
+                let (places, rows) = (any, any);
+                Some((
+                    *desk,
+                    Lent {
+                        places,
+                        rows,
+                        ..lent
+                    },
+                ))
+            }
+            _ => None,
+        }
+    }
+
     /// The length of the output, where the call is refused for it.
     pub fn short_output(&self) -> Option<usize> {
         let (output, enough) = match self {
@@ -102,6 +136,7 @@ impl Display for Call {
             }
             Call::Check { book } => write!(f, "book {}", Hex(book)),
             Call::Walk { modifiers, at } => write!(f, "walk {} {at}", Hex(modifiers)),
+            Call::Lent { call, .. } => call.fmt(f),
         }
     }
 }

@@ -2,7 +2,7 @@
 
 use crate::call::Run;
 use crate::generator;
-use crate::opinion::Opinion;
+use crate::opinion::{Opinion, Tools};
 use crate::player::{self, Difference};
 use crate::random::Random;
 use crate::tally::Tally;
@@ -15,7 +15,7 @@ pub struct Found {
 }
 
 /// Plays random runs until a difference or until `count` calls are compared.
-pub fn compare<A: Opinion, B: Opinion>(
+pub fn compare<A: Opinion + Tools, B: Opinion + Tools, C: Opinion>(
     seed: u64,
     count: u64,
     tally: &mut Tally,
@@ -23,7 +23,7 @@ pub fn compare<A: Opinion, B: Opinion>(
     let mut random = Random::new(seed);
     while tally.calls() < count {
         let run = generator::run(&mut random);
-        if let Err(difference) = player::play::<A, B>(&run, count, tally) {
+        if let Err(difference) = player::play::<A, B, C>(&run, count, tally) {
             return Err(Found { run, difference });
         }
     }

@@ -11,8 +11,12 @@ pub fn text(run: &Run, difference: &Difference) -> String {
     lines.join("\n") + "\n"
 }
 
-/// The replaying program always lends enough, so a call with a short output is a comment.
+/// The replaying program lends all the memory and enough output, so a call with less is a comment.
 pub fn line(call: &Call) -> String {
+    if let Call::Lent { lent: l, call } = call {
+        let lengths = [l.places, l.rows, l.marks, l.stores];
+        return format!("# head {}, memory of {lengths:?}: {call}", l.head);
+    }
     match call.short_output() {
         Some(output) => format!("# output of {output} bytes: {call}"),
         None => call.to_string(),

@@ -1,4 +1,4 @@
-//! Compares the proved relay with the second one on random and damaged runs.
+//! Compares the proved relay with the second one and the rival on random and damaged runs.
 
 mod call;
 mod comparison;
@@ -11,6 +11,7 @@ mod tally;
 #[cfg(test)]
 mod tests;
 
+use rival::Rival;
 use second::Second;
 use spindlefig::Relay;
 use std::env;
@@ -19,32 +20,44 @@ use std::process::ExitCode;
 use tally::Tally;
 
 const USAGE: &str = "\
-compare [SEED [COUNT [LOG]]]
+compare [--unproved] [SEED [COUNT [LOG]]]
 
-Plays random and damaged runs through the proved relay and through the second
-one, and compares every answer and every output byte of COUNT calls.
+Plays random and damaged runs through the proved relay, the second one and the
+rival, and compares every answer and every output byte of COUNT calls. The rival
+takes no part in writing, style book checks and box walks.
 
   SEED   which runs to play (1)
   COUNT  how many calls to compare (2000000)
-  LOG    the file for the calls of a run with a difference (difference.log)";
+  LOG    the file for the calls of a run with a difference (difference.log)
+
+Some calls lend memory that set-up did not leave: another number of desks in
+it, or too little. Where that is refused the proved relay alone is asked, and
+what it has to answer is told by the rule as the second one states it. Where it
+is not refused the call is left out: there only safety is promised.
+
+--unproved leaves the proved relay out and holds the rival against the second.";
 
 /// From this count on every refusal has to be seen this often.
 const LARGE_COUNT: u64 = 1_000_000;
 const OFTEN: u64 = 1_000;
 
 struct Arguments {
+    unproved: bool,
     seed: u64,
     count: u64,
     log: String,
 }
 
 fn arguments(words: &[String]) -> Option<Arguments> {
+    let unproved = words.first().is_some_and(|word| word == "--unproved");
+    let words = &words[usize::from(unproved)..];
     let number = |place: usize, default| match words.get(place) {
         Some(word) => word.parse().ok(),
         None => Some(default),
     };
     let log = words.get(2).map_or("difference.log", String::as_str);
     (words.len() <= 3).then_some(Arguments {
+        unproved,
         seed: number(0, 1)?,
         count: number(1, 2_000_000)?,
         log: log.to_string(),
@@ -53,8 +66,12 @@ fn arguments(words: &[String]) -> Option<Arguments> {
 
 fn compare(arguments: &Arguments) -> ExitCode {
     let mut tally = Tally::default();
-    let compared =
-        comparison::compare::<Relay, Second>(arguments.seed, arguments.count, &mut tally);
+    let (seed, count) = (arguments.seed, arguments.count);
+    let compared = if arguments.unproved {
+        comparison::compare::<Second, Second, Rival>(seed, count, &mut tally)
+    } else {
+        comparison::compare::<Relay, Second, Rival>(seed, count, &mut tally)
+    };
     println!("{tally}");
     if let Err(found) = compared {
         println!("difference: {}", found.difference.what);

@@ -1,6 +1,7 @@
-//! The calls that both relays answer, in the types of the second one.
+//! The calls that the relays answer, in the types of the second one.
 
-use second::{Answer, Facts, Outcome, Second, Step};
+use rival::Rival;
+use second::{Answer, Facts, Lent, Outcome, Second, Step};
 use spindlefig::{Refusal, Relay, Writer};
 
 /// A sample as the writer takes it.
@@ -16,11 +17,22 @@ pub struct Caption {
 /// A payload's length and how many payloads there are, or a refusal.
 pub type Written = Result<(usize, usize), u8>;
 
+/// The calls of a relay.
 pub trait Opinion: Sized {
     fn set_up(n: usize) -> Result<Self, u8>;
     fn receive(&mut self, desk: usize, time: u32, rest: &[u8], out: &mut [u8]) -> Answer;
     fn give_up(&mut self, desk: usize, time: u32) -> Result<(), u8>;
     fn look(&self, desk: usize, index: usize, book: &[u8]) -> Vec<u8>;
+
+    /// Calls with this memory lent; tells also whether the memory stayed as it was. `None` for a
+    /// relay that is lent none.
+    fn lending<T>(&mut self, _: Lent, _: impl FnOnce(&mut Self) -> T) -> Option<(T, bool)> {
+        None
+    }
+}
+
+/// The calls that need no relay.
+pub trait Tools {
     fn write(caption: &Caption, m: usize, k: usize, out: &mut [u8]) -> Written;
     fn describe(sidx: usize, d: &[u8], m: usize, k: usize, out: &mut [u8]) -> Written;
     fn check(book: &[u8]) -> Result<usize, usize>;
@@ -43,7 +55,9 @@ impl Opinion for Second {
     fn look(&self, desk: usize, index: usize, book: &[u8]) -> Vec<u8> {
         Second::look(self, desk, index, book)
     }
+}
 
+impl Tools for Second {
     fn write(c: &Caption, m: usize, k: usize, out: &mut [u8]) -> Written {
         second::write(c.u, c.sidx, c.sdur, &c.string, &c.modifiers, m, k, out)
     }
@@ -58,6 +72,29 @@ impl Opinion for Second {
 
     fn step(modifiers: &[u8], at: usize) -> Step<'_> {
         second::step(modifiers, at)
+    }
+}
+
+impl Opinion for Rival {
+    fn set_up(n: usize) -> Result<Rival, u8> {
+        Rival::set_up(n)
+    }
+
+    fn receive(&mut self, desk: usize, time: u32, rest: &[u8], out: &mut [u8]) -> Answer {
+        let answer = Rival::receive(self, desk, time, rest, out);
+        Answer {
+            used: answer.used,
+            next: answer.next,
+            outcome: rivals_outcome(answer.outcome),
+        }
+    }
+
+    fn give_up(&mut self, desk: usize, time: u32) -> Result<(), u8> {
+        Rival::give_up(self, desk, time)
+    }
+
+    fn look(&self, desk: usize, index: usize, book: &[u8]) -> Vec<u8> {
+        Rival::look(self, desk, index, book).to_vec()
     }
 }
 
@@ -83,6 +120,23 @@ impl Opinion for Relay {
         self.lookup(desk, index, book)
     }
 
+    fn lending<T>(&mut self, lent: Lent, call: impl FnOnce(&mut Self) -> T) -> Option<(T, bool)> {
+        let lent = spindlefig::Lent {
+            head: lent.head,
+            places: lent.places,
+            rows: lent.rows,
+            marks: lent.marks,
+            stores: lent.stores,
+        };
+        Some(Relay::lending(self, lent, |relay| {
+            let before = relay.clone();
+            let answer = call(relay);
+            (answer, *relay == before)
+        }))
+    }
+}
+
+impl Tools for Relay {
     fn write(c: &Caption, m: usize, k: usize, out: &mut [u8]) -> Written {
         let caption = spindlefig::Caption {
             u: c.u,
@@ -138,6 +192,30 @@ fn outcome(outcome: spindlefig::Outcome) -> Outcome {
 }
 
 fn facts(told: spindlefig::Facts) -> Facts {
+    Facts {
+        time: told.time,
+        u: told.u,
+        sidx: told.sidx,
+        sdur: told.sdur,
+        string: told.string,
+        sample: told.sample,
+    }
+}
+
+fn rivals_outcome(outcome: rival::Outcome) -> Outcome {
+    match outcome {
+        rival::Outcome::End => Outcome::End,
+        rival::Outcome::Whole(told) => Outcome::Whole(rivals_facts(told)),
+        rival::Outcome::Joined(told) => Outcome::Joined(rivals_facts(told)),
+        rival::Outcome::Kept(missing) => Outcome::Kept(missing),
+        rival::Outcome::Repeat => Outcome::Repeat,
+        rival::Outcome::Described => Outcome::Described,
+        rival::Outcome::Skipped(kind) => Outcome::Skipped(kind),
+        rival::Outcome::Refused(number) => Outcome::Refused(number),
+    }
+}
+
+fn rivals_facts(told: rival::Facts) -> Facts {
     Facts {
         time: told.time,
         u: told.u,

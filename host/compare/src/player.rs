@@ -1,9 +1,9 @@
-//! Plays the same calls to two opinions and compares all they say.
+//! Plays the same calls to three opinions and compares all they say.
 
 use crate::call::{Call, Run};
-use crate::opinion::{Opinion, Written};
+use crate::opinion::{Opinion, Tools, Written};
 use crate::tally::Tally;
-use second::Step;
+use second::{Answer, Lent, Outcome, Step};
 use std::fmt::{Arguments, Debug};
 
 /// Each output lies in a buffer of this length, and the bytes beyond it are compared too.
@@ -18,13 +18,14 @@ pub struct Difference {
 }
 
 /// Plays a run until its end, a difference, or as many calls as `most` in all.
-pub fn play<A: Opinion, B: Opinion>(
+pub fn play<A: Opinion + Tools, B: Opinion + Tools, C: Opinion>(
     run: &Run,
     most: u64,
     tally: &mut Tally,
 ) -> Result<(), Difference> {
     let at_set_up = |what| Difference { calls: 0, what };
-    let Some(mut player) = Player::<A, B>::set_up(run.n, most, tally).map_err(at_set_up)? else {
+    let player = Player::<A, B, C>::set_up(run.n, most, tally).map_err(at_set_up)?;
+    let Some(mut player) = player else {
         return Ok(());
     };
     for (before, call) in run.calls.iter().enumerate() {
@@ -39,73 +40,104 @@ pub fn play<A: Opinion, B: Opinion>(
     Ok(())
 }
 
-struct Player<'a, A, B> {
+struct Player<'a, A, B, C> {
     relay: A,
     second: B,
+    rival: C,
     tally: &'a mut Tally,
     most: u64,
     outputs: Outputs,
 }
 
-/// The buffers whose fronts are lent as outputs.
+/// The buffers whose fronts are lent as outputs, in the order of the opinions.
 struct Outputs {
-    relay: [u8; BUFFER],
-    second: [u8; BUFFER],
+    buffers: [[u8; BUFFER]; 3],
     pattern: u8,
 }
 
 impl Outputs {
-    /// Both outputs, filled anew with a pattern.
-    fn lend(&mut self, output: usize) -> (&mut [u8], &mut [u8]) {
+    /// All outputs, filled anew with a pattern.
+    fn lend(&mut self, output: usize) -> [&mut [u8]; 3] {
         self.pattern = self.pattern.wrapping_add(0x53);
-        self.relay.fill(self.pattern);
-        self.second.fill(self.pattern);
-        (&mut self.relay[..output], &mut self.second[..output])
+        self.buffers.as_flattened_mut().fill(self.pattern);
+        self.buffers.each_mut().map(|buffer| &mut buffer[..output])
     }
 
     fn same(&self) -> Result<(), String> {
-        if self.relay == self.second {
-            return Ok(());
-        }
-        let mut pairs = self.relay.iter().zip(&self.second);
-        let place = pairs.position(|(relay, second)| relay != second);
-        let place = place.unwrap_or(BUFFER - 1);
-        let (relay, second) = (self.relay[place], self.second[place]);
-        same(format_args!("byte {place} of the output"), &relay, &second)
+        let [relay, second, rival] = &self.buffers;
+        same_bytes("second", relay, second)?;
+        same_bytes("rival", relay, rival)
+    }
+
+    /// The same for what only two were asked.
+    fn same_for_two(&self) -> Result<(), String> {
+        let [relay, second, _] = &self.buffers;
+        same_bytes("second", relay, second)
     }
 }
 
-fn same<T: PartialEq + Debug>(what: Arguments<'_>, relay: &T, second: &T) -> Result<(), String> {
-    if relay == second {
+fn same_bytes(name: &str, relay: &[u8; BUFFER], other: &[u8; BUFFER]) -> Result<(), String> {
+    if relay == other {
+        return Ok(());
+    }
+    let place = relay
+        .iter()
+        .zip(other)
+        .position(|(ours, theirs)| ours != theirs);
+    let place = place.unwrap_or(BUFFER - 1);
+    let what = format_args!("byte {place} of the output");
+    same(what, &relay[place], name, &other[place])
+}
+
+fn same<T: PartialEq + Debug>(
+    what: Arguments<'_>,
+    relay: &T,
+    name: &str,
+    other: &T,
+) -> Result<(), String> {
+    if relay == other {
         return Ok(());
     }
     Err(format!(
-        "{what}: the relay says {relay:?}, second says {second:?}"
+        "{what}: the relay says {relay:?}, {name} says {other:?}"
     ))
 }
 
-impl<'a, A: Opinion, B: Opinion> Player<'a, A, B> {
-    /// `None` where both refuse.
+/// What all three say, if it is the same.
+fn agreed<T: PartialEq + Debug>(
+    what: Arguments<'_>,
+    relay: T,
+    second: T,
+    rival: T,
+) -> Result<T, String> {
+    same(what, &relay, "second", &second)?;
+    same(what, &relay, "rival", &rival)?;
+    Ok(relay)
+}
+
+impl<'a, A: Opinion + Tools, B: Opinion + Tools, C: Opinion> Player<'a, A, B, C> {
+    /// `None` where all refuse.
     fn set_up(n: usize, most: u64, tally: &'a mut Tally) -> Result<Option<Self>, String> {
-        let (relay, second) = (A::set_up(n), B::set_up(n));
-        same(
+        let (relay, second, rival) = (A::set_up(n), B::set_up(n), C::set_up(n));
+        agreed(
             format_args!("set-up"),
-            &relay.as_ref().err(),
-            &second.as_ref().err(),
+            relay.as_ref().err(),
+            second.as_ref().err(),
+            rival.as_ref().err(),
         )?;
-        let (Ok(relay), Ok(second)) = (relay, second) else {
-            tally.set_up("refused");
+        let (Ok(relay), Ok(second), Ok(rival)) = (relay, second, rival) else {
+            tally.uncounted("set-up", "refused");
             return Ok(None);
         };
-        tally.set_up("done");
+        tally.uncounted("set-up", "done");
         let outputs = Outputs {
-            relay: [0; BUFFER],
-            second: [0; BUFFER],
+            buffers: [[0; BUFFER]; 3],
             pattern: 0,
         };
         Ok(Some(Player {
             relay,
             second,
+            rival,
             tally,
             most,
             outputs,
@@ -132,7 +164,7 @@ impl<'a, A: Opinion, B: Opinion> Player<'a, A, B> {
                 k,
                 output,
             } => {
-                let (relay, second) = self.outputs.lend(*output);
+                let [relay, second, _] = self.outputs.lend(*output);
                 let relay = A::write(caption, *m, *k, relay);
                 let second = B::write(caption, *m, *k, second);
                 self.written("write", relay, second)
@@ -144,13 +176,14 @@ impl<'a, A: Opinion, B: Opinion> Player<'a, A, B> {
                 k,
                 output,
             } => {
-                let (relay, second) = self.outputs.lend(*output);
+                let [relay, second, _] = self.outputs.lend(*output);
                 let relay = A::describe(*sidx, d, *m, *k, relay);
                 let second = B::describe(*sidx, d, *m, *k, second);
                 self.written("describe", relay, second)
             }
             Call::Check { book } => self.check(book),
             Call::Walk { modifiers, at } => self.step(modifiers, *at),
+            Call::Lent { lent, call } => self.lent(*lent, call),
         }
     }
 
@@ -164,10 +197,13 @@ impl<'a, A: Opinion, B: Opinion> Player<'a, A, B> {
         let mut at = 0;
         loop {
             let rest = &payload[at..];
-            let (relay, second) = self.outputs.lend(output);
-            let answer = self.relay.receive(desk, time, rest, relay);
-            let other = self.second.receive(desk, time, rest, second);
-            same(format_args!("unit at {at}, time {time}"), &answer, &other)?;
+            let [relay, second, rival] = self.outputs.lend(output);
+            let answer = agreed(
+                format_args!("unit at {at}, time {time}"),
+                self.relay.receive(desk, time, rest, relay),
+                self.second.receive(desk, time, rest, second),
+                self.rival.receive(desk, time, rest, rival),
+            )?;
             self.outputs.same()?;
             self.tally.received(&answer.outcome);
             at += answer.used;
@@ -179,13 +215,13 @@ impl<'a, A: Opinion, B: Opinion> Player<'a, A, B> {
     }
 
     fn give_up(&mut self, desk: usize, time: u32) -> Result<(), String> {
-        let relay = self.relay.give_up(desk, time);
-        same(
+        let given_up = agreed(
             format_args!("give-up"),
-            &relay,
-            &self.second.give_up(desk, time),
+            self.relay.give_up(desk, time),
+            self.second.give_up(desk, time),
+            self.rival.give_up(desk, time),
         )?;
-        match relay {
+        match given_up {
             Ok(()) => self.tally.add("give-up", "given up"),
             Err(number) => self.tally.refused("give-up", number),
         }
@@ -193,15 +229,72 @@ impl<'a, A: Opinion, B: Opinion> Player<'a, A, B> {
     }
 
     fn look(&mut self, desk: usize, index: usize, book: &[u8]) -> Result<(), String> {
-        let relay = self.relay.look(desk, index, book);
-        same(
+        let shown = agreed(
             format_args!("look"),
-            &relay,
-            &self.second.look(desk, index, book),
+            self.relay.look(desk, index, book),
+            self.second.look(desk, index, book),
+            self.rival.look(desk, index, book),
         )?;
-        let outcome = if relay.is_empty() { "empty" } else { "shown" };
+        let outcome = if shown.is_empty() { "empty" } else { "shown" };
         self.tally.add("look", outcome);
         Ok(())
+    }
+
+    /// A call with other memory than set-up left. Only the proved relay is lent any; what it has to
+    /// say is told by the second one's rule for refusal 1. Where that lets the call through, the
+    /// tables are not what set-up made for so many desks, and the call is left out.
+    fn lent(&mut self, lent: Lent, call: &Call) -> Result<(), String> {
+        let stranger = |(desk, lent): (usize, Lent)| lent.desks().map_or(true, |n| desk >= n);
+        if !call.takes(lent).is_some_and(stranger) {
+            self.tally.uncounted("lent", "left out");
+            return Ok(());
+        }
+        let Some((refused, stayed)) = self.refused_with(lent, call) else {
+            self.tally.uncounted("lent", "left out");
+            return Ok(());
+        };
+        refused?;
+        self.outputs.same()?;
+        same(format_args!("memory that stays"), &stayed, "second", &true)?;
+        match call {
+            Call::Look { .. } => self.tally.add("lent", "empty"),
+            _ => self.tally.refused("lent", 1),
+        }
+        Ok(())
+    }
+
+    /// Whether the relay refuses by 1 with this memory, and whether the memory stayed as it was.
+    fn refused_with(&mut self, lent: Lent, call: &Call) -> Option<(Result<(), String>, bool)> {
+        let what = format_args!("{lent:?}");
+        let output = match call {
+            Call::Receive { output, .. } => *output,
+            _ => 0,
+        };
+        let [out, _, _] = self.outputs.lend(output);
+        self.relay.lending(lent, |relay| match call {
+            Call::Receive {
+                desk,
+                time,
+                payload,
+                ..
+            } => {
+                let refused = Answer {
+                    used: 0,
+                    next: *time,
+                    outcome: Outcome::Refused(1),
+                };
+                let answer = relay.receive(*desk, *time, payload, out);
+                same(what, &answer, "second", &refused)
+            }
+            Call::GiveUp { desk, time } => {
+                same(what, &relay.give_up(*desk, *time), "second", &Err(1))
+            }
+            Call::Look { desk, index, book } => {
+                let nothing = Vec::new();
+                same(what, &relay.look(*desk, *index, book), "second", &nothing)
+            }
+            _ => Ok(()),
+        })
     }
 
     fn written(
@@ -210,8 +303,8 @@ impl<'a, A: Opinion, B: Opinion> Player<'a, A, B> {
         relay: Written,
         second: Written,
     ) -> Result<(), String> {
-        same(format_args!("{call}"), &relay, &second)?;
-        self.outputs.same()?;
+        same(format_args!("{call}"), &relay, "second", &second)?;
+        self.outputs.same_for_two()?;
         match relay {
             Ok(_) => self.tally.add(call, "written"),
             Err(number) => self.tally.refused(call, number),
@@ -221,7 +314,7 @@ impl<'a, A: Opinion, B: Opinion> Player<'a, A, B> {
 
     fn check(&mut self, book: &[u8]) -> Result<(), String> {
         let relay = A::check(book);
-        same(format_args!("book"), &relay, &B::check(book))?;
+        same(format_args!("book"), &relay, "second", &B::check(book))?;
         match relay {
             Ok(_) => self.tally.add("book", "good"),
             Err(_) => self.tally.refused("book", 16),
@@ -231,7 +324,8 @@ impl<'a, A: Opinion, B: Opinion> Player<'a, A, B> {
 
     fn step(&mut self, modifiers: &[u8], at: usize) -> Result<(), String> {
         let relay = A::step(modifiers, at);
-        same(format_args!("walk"), &relay, &B::step(modifiers, at))?;
+        let second = B::step(modifiers, at);
+        same(format_args!("walk"), &relay, "second", &second)?;
         match relay {
             Step::End => self.tally.add("walk", "end"),
             Step::Box { .. } => self.tally.add("walk", "box"),

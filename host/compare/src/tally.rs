@@ -14,18 +14,18 @@ pub struct Tally {
 }
 
 impl Tally {
-    /// Calls counted so far; set-ups are not among them.
+    /// Calls counted so far; set-ups and what is left out are not among them.
     pub fn calls(&self) -> u64 {
         self.calls
     }
 
-    pub fn set_up(&mut self, outcome: &'static str) {
-        *self.outcomes.entry(("set-up", outcome)).or_default() += 1;
+    pub fn uncounted(&mut self, call: &'static str, outcome: &'static str) {
+        *self.outcomes.entry((call, outcome)).or_default() += 1;
     }
 
     pub fn add(&mut self, call: &'static str, outcome: &'static str) {
         self.calls += 1;
-        *self.outcomes.entry((call, outcome)).or_default() += 1;
+        self.uncounted(call, outcome);
     }
 
     pub fn refused(&mut self, call: &'static str, number: u8) {

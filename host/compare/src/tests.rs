@@ -1,10 +1,11 @@
 //! Opinions that are wrong on purpose have to be found out.
 
+use crate::call::Call;
 use crate::comparison::{compare, Found};
 use crate::log;
-use crate::opinion::{Caption, Opinion, Written};
+use crate::opinion::{Caption, Opinion, Tools, Written};
 use crate::tally::Tally;
-use second::{Answer, Outcome, Second, Step};
+use second::{Answer, Lent, Outcome, Second, Step};
 use std::collections::HashMap;
 
 const SET_UP: u8 = 0;
@@ -16,11 +17,16 @@ const WRITE: u8 = 5;
 const DESCRIBE: u8 = 6;
 const CHECK: u8 = 7;
 const STEP: u8 = 8;
+const HEAD: u8 = 9;
+const TOUCHES: u8 = 10;
+const NONE: u8 = 11;
 
 /// The second relay with one mistake.
 struct Wrong<const MISTAKE: u8> {
     second: Second,
     arrived: HashMap<(usize, u32), Vec<u8>>,
+    /// Whether it is lent memory that is no relay's, and refuses all by 1.
+    lent_other: bool,
 }
 
 impl<const MISTAKE: u8> Wrong<MISTAKE> {
@@ -48,11 +54,15 @@ impl<const MISTAKE: u8> Opinion for Wrong<MISTAKE> {
     fn set_up(n: usize) -> Result<Self, u8> {
         let n = if MISTAKE == SET_UP && n == 9 { 8 } else { n };
         let second = Second::set_up(n)?;
-        let arrived = HashMap::new();
-        Ok(Wrong { second, arrived })
+        Ok(Wrong {
+            second,
+            arrived: HashMap::new(),
+            lent_other: false,
+        })
     }
 
     fn receive(&mut self, desk: usize, time: u32, rest: &[u8], out: &mut [u8]) -> Answer {
+        let desk = if self.lent_other { usize::MAX } else { desk };
         let mut answer = self.second.receive(desk, time, rest, out);
         if MISTAKE == FORGETS_LATE && answer.outcome == Outcome::Refused(6) {
             answer.outcome = Outcome::Repeat;
@@ -64,6 +74,7 @@ impl<const MISTAKE: u8> Opinion for Wrong<MISTAKE> {
     }
 
     fn give_up(&mut self, desk: usize, time: u32) -> Result<(), u8> {
+        let desk = if self.lent_other { usize::MAX } else { desk };
         let answer = self.second.give_up(desk, time);
         if MISTAKE == GIVE_UP && answer == Err(11) {
             return Ok(());
@@ -72,6 +83,7 @@ impl<const MISTAKE: u8> Opinion for Wrong<MISTAKE> {
     }
 
     fn look(&self, desk: usize, index: usize, book: &[u8]) -> Vec<u8> {
+        let desk = if self.lent_other { usize::MAX } else { desk };
         let mut shown = self.second.look(desk, index, book);
         if MISTAKE == LOOK {
             shown.truncate(255);
@@ -79,8 +91,17 @@ impl<const MISTAKE: u8> Opinion for Wrong<MISTAKE> {
         shown
     }
 
+    fn lending<T>(&mut self, _: Lent, call: impl FnOnce(&mut Self) -> T) -> Option<(T, bool)> {
+        self.lent_other = MISTAKE != HEAD;
+        let answer = call(self);
+        self.lent_other = false;
+        Some((answer, MISTAKE != TOUCHES))
+    }
+}
+
+impl<const MISTAKE: u8> Tools for Wrong<MISTAKE> {
     fn write(caption: &Caption, m: usize, k: usize, out: &mut [u8]) -> Written {
-        let (length, count) = <Second as Opinion>::write(caption, m, k, out)?;
+        let (length, count) = <Second as Tools>::write(caption, m, k, out)?;
         if let (WRITE, Some(behind)) = (MISTAKE, out.get_mut(length)) {
             *behind = behind.wrapping_add(1);
         }
@@ -109,11 +130,18 @@ impl<const MISTAKE: u8> Opinion for Wrong<MISTAKE> {
     }
 }
 
-/// The first difference between the second relay and one with a mistake.
+/// The first difference between one with a mistake and the second relay.
 fn found<const MISTAKE: u8>() -> Found {
     let mut tally = Tally::default();
-    let compared = compare::<Second, Wrong<MISTAKE>>(7, 100_000, &mut tally);
+    let compared = compare::<Wrong<MISTAKE>, Second, Second>(7, 100_000, &mut tally);
     compared.expect_err("the mistake is found")
+}
+
+/// What is said of a mistake in the third place.
+fn rivals<const MISTAKE: u8>() -> String {
+    let mut tally = Tally::default();
+    let compared = compare::<Second, Second, Wrong<MISTAKE>>(7, 100_000, &mut tally);
+    compared.expect_err("the mistake is found").difference.what
 }
 
 fn is_hex(word: &str) -> bool {
@@ -176,10 +204,35 @@ fn every_mistake_is_found_and_logged() {
 }
 
 #[test]
+fn mistakes_with_other_memory_are_found_and_logged_as_comments() {
+    for found in [found::<HEAD>(), found::<TOUCHES>()] {
+        let log = log::text(&found.run, &found.difference);
+        let last = log.lines().rev().nth(1).expect("the call stands there");
+        assert!(last.starts_with("# head "), "{last}");
+        let call = &found.run.calls[found.difference.calls - 1];
+        assert!(matches!(call, Call::Lent { .. }));
+    }
+}
+
+#[test]
+fn mistakes_in_the_third_place_are_found() {
+    let mistakes = [
+        rivals::<SET_UP>(),
+        rivals::<ARRIVAL_ORDER>(),
+        rivals::<FORGETS_LATE>(),
+        rivals::<GIVE_UP>(),
+        rivals::<LOOK>(),
+    ];
+    for what in mistakes {
+        assert!(what.contains(", rival says "), "{what}");
+    }
+}
+
+#[test]
 fn an_opinion_agrees_with_itself_and_the_same_seed_gives_the_same_calls() {
     let tallies = [3, 3, 4].map(|seed| {
         let mut tally = Tally::default();
-        let compared = compare::<Second, Second>(seed, 20_000, &mut tally);
+        let compared = compare::<Wrong<NONE>, Second, Second>(seed, 20_000, &mut tally);
         assert!(compared.is_ok());
         assert_eq!(tally.calls(), 20_000);
         tally.to_string()
@@ -189,12 +242,12 @@ fn an_opinion_agrees_with_itself_and_the_same_seed_gives_the_same_calls() {
 }
 
 #[test]
-fn a_call_with_a_short_output_is_logged_as_a_comment() {
+fn a_call_with_too_little_lent_is_logged_as_a_comment() {
     let found = found::<FORGETS_LATE>();
     for call in &found.run.calls {
-        let short = call.short_output().is_some();
+        let less = call.short_output().is_some() || matches!(call, Call::Lent { .. });
         let line = log::line(call);
-        assert_eq!(line.starts_with("# output of "), short);
+        assert_eq!(line.starts_with("# "), less);
         assert!(line.ends_with(&call.to_string()));
     }
 }

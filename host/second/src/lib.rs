@@ -5,6 +5,7 @@
 
 mod boxes;
 mod desk;
+mod lent;
 mod sample;
 mod style;
 mod unit;
@@ -16,6 +17,7 @@ use sample::Sample;
 use unit::{Part, Unit};
 
 pub use boxes::{step, Step};
+pub use lent::Lent;
 pub use style::check;
 pub use write::{describe, write};
 

@@ -1,6 +1,6 @@
 //! The twelve cases worked by hand.
 
-use second::{describe, write, Answer, Facts, Outcome, Second};
+use second::{describe, write, Answer, Facts, Lent, Outcome, Second};
 
 const CASE_1: &[u8] = b"\x01\x00\x0A\x80\x01\x5F\x90\x00\x02Hi";
 const PART_7: &[u8] = b"\x02\x00\x0B\x21\x00\x00\x64\x80\x00\x0EHi";
@@ -143,4 +143,34 @@ fn case_11_parts_of_4_and_4_or_one_whole_sample() {
 fn case_12_at_most_15_parts() {
     assert_eq!(written(60, 14).map(|payloads| payloads.len()), Ok(15));
     assert_eq!(written(61, 14), Err(13));
+}
+
+#[test]
+fn memory_is_for_the_desks_that_its_head_names_or_for_none() {
+    for n in 1..=8 {
+        let all = Lent::needed(n);
+        assert_eq!(all.desks(), Ok(n));
+        let marks = all.marks - 1;
+        assert_eq!(Lent { marks, ..all }.desks(), Err(1));
+        let head = all.head + 1;
+        assert_eq!(Lent { head, ..all }.desks(), Err(1));
+    }
+    let head = 0;
+    assert_eq!(
+        Lent {
+            head,
+            ..Lent::needed(1)
+        }
+        .desks(),
+        Err(1)
+    );
+    let head = 2;
+    assert_eq!(
+        Lent {
+            head,
+            ..Lent::needed(3)
+        }
+        .desks(),
+        Ok(2)
+    );
 }

@@ -37,7 +37,7 @@ pub use answer::{Answer, Facts, Outcome};
 pub use book::{check_book, BadRecord};
 pub use boxes::{boxes, step, Boxes, ModifierBox, Step};
 pub use refusal::Refusal;
-pub use relay::{Heard, Relay, Units, DESCRIPTION, OUTPUT};
+pub use relay::{Heard, Lent, Relay, Units, DESCRIPTION, OUTPUT};
 pub use writer::{Caption, Writer, Written, LIMIT};
 
 /// The length of the character of UTF-8 (u is 0) or UTF-16 (u is 1) at a place, and 0 where none is

@@ -14,7 +14,7 @@ use std::fmt;
 #[derive(Debug, Clone, Copy, PartialEq, Eq)]
 #[repr(u8)]
 pub enum Refusal {
-    /// 1: the desk is not below n, or n is not 1 to 8.
+    /// 1: the desk is not below n, n is not 1 to 8, or the memory is too short for n.
     Desk = 1,
     /// 2: the output is shorter than 1,024 bytes.
     Output,

@@ -31,9 +31,26 @@ pub const DESCRIPTION: usize = 256;
 /// assert_eq!(answer.next, 1100);
 /// # Ok::<(), spindlefig::Refusal>(())
 /// ```
-#[derive(Clone)]
+///
+/// The relay knows by its memory how many desks it has. Two are equal where all their memory is.
+#[derive(Clone, PartialEq, Eq)]
 pub struct Relay {
     tables: Tables,
+}
+
+/// What is lent to a call: the number at the front of the marks, and how much of each slice.
+#[derive(Debug, Clone, Copy, PartialEq, Eq)]
+pub struct Lent {
+    /// What stands where set-up puts the number of desks.
+    pub head: u32,
+    /// How many places.
+    pub places: usize,
+    /// How many finished times.
+    pub rows: usize,
+    /// How many marks.
+    pub marks: usize,
+    /// How many bytes of descriptions.
+    pub stores: usize,
 }
 
 impl fmt::Debug for Relay {
@@ -163,6 +180,32 @@ impl Relay {
         let mut out = [0; DESCRIPTION];
         let len = self.tables.lookup(desk, index, book, &mut out);
         out[..len].to_vec()
+    }
+
+    /// Calls with less memory or another number of desks in it, to see what is refused then; nothing
+    /// is lent beyond what there is. Afterwards all of it is lent again, with the number that stood.
+    ///
+    /// A number that is not 1 to 8, or memory too short for it, is refusal 1 and leaves all as it
+    /// stood. Another number that is let through makes tables that set-up did not make: then every
+    /// call is still safe, and no more is promised.
+    ///
+    /// ```
+    /// use spindlefig::{Lent, Refusal, Relay};
+    ///
+    /// let mut relay = Relay::set_up(2)?;
+    /// let all = usize::MAX;
+    /// let nine = Lent { head: 9, places: all, rows: all, marks: all, stores: all };
+    /// assert_eq!(relay.lending(nine, |relay| relay.give_up(0, 5)), Err(Refusal::Desk));
+    /// let short = Lent { head: 2, places: 7, ..nine };
+    /// assert_eq!(relay.lending(short, |relay| relay.give_up(0, 5)), Err(Refusal::Desk));
+    /// assert_eq!(relay.give_up(0, 5), Err(Refusal::NotOpen));
+    /// # Ok::<(), Refusal>(())
+    /// ```
+    pub fn lending<T>(&mut self, lent: Lent, call: impl FnOnce(&mut Relay) -> T) -> T {
+        let before = self.tables.lend(lent);
+        let answer = call(self);
+        self.tables.lend(before);
+        answer
     }
 }
 

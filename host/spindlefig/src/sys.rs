@@ -1,7 +1,7 @@
 //! The calls of the proved library as C sees them, and the memory that is lent to them. All
 //! `unsafe` of the crate stands here.
 
-use crate::Caption;
+use crate::{Caption, Lent};
 
 /// How many numbers an answer fills.
 pub(crate) const ROW: usize = 9;
@@ -29,7 +29,6 @@ extern "C" {
         stores_len: usize,
     ) -> usize;
     fn spindlefig_receive(
-        desks: usize,
         places: *mut u64,
         places_len: usize,
         rows: *mut u32,
@@ -48,7 +47,6 @@ extern "C" {
         row_len: usize,
     ) -> usize;
     fn spindlefig_give_up(
-        desks: usize,
         places: *mut u64,
         places_len: usize,
         rows: *mut u32,
@@ -59,7 +57,6 @@ extern "C" {
         time: u32,
     ) -> usize;
     fn spindlefig_lookup(
-        desks: usize,
         marks: *const u32,
         marks_len: usize,
         stores: *const u8,
@@ -109,54 +106,75 @@ extern "C" {
 }
 
 /// The memory of a relay, lent to every call. The places are words: only the library reads them.
-#[derive(Clone)]
+/// The number of desks stands at the front of the marks, where set-up puts it.
+#[derive(Clone, PartialEq, Eq)]
 pub(crate) struct Tables {
-    desks: usize,
     places: Vec<u64>,
-    places_len: usize,
     rows: Vec<u32>,
     marks: Vec<u32>,
     stores: Vec<u8>,
+    /// How much of each is lent, which is never more than there is.
+    lent: Lengths,
+}
+
+/// Lengths in elements, as the library counts them.
+#[derive(Clone, Copy, PartialEq, Eq)]
+struct Lengths {
+    places: usize,
+    rows: usize,
+    marks: usize,
+    stores: usize,
+}
+
+impl Lengths {
+    /// What n desks need; nothing where n is not 1 to 8.
+    fn needed(n: usize) -> Lengths {
+        // SAFETY: these calls take nothing but a number.
+        unsafe {
+            Lengths {
+                places: spindlefig_places(n),
+                rows: spindlefig_rows(n),
+                marks: spindlefig_marks(n),
+                stores: spindlefig_stores(n),
+            }
+        }
+    }
+}
+
+/// The words of one place.
+fn place_words() -> usize {
+    // SAFETY: the call takes nothing.
+    unsafe { spindlefig_place_size() }.div_ceil(WORD)
 }
 
 impl Tables {
     /// What n desks need, all zeros; nothing where n is not 1 to 8.
-    fn lent(n: usize) -> Tables {
-        // SAFETY: these calls take nothing but a number.
-        let (places_len, size, rows, marks, stores) = unsafe {
-            (
-                spindlefig_places(n),
-                spindlefig_place_size(),
-                spindlefig_rows(n),
-                spindlefig_marks(n),
-                spindlefig_stores(n),
-            )
-        };
+    fn zeros(n: usize) -> Tables {
+        let lent = Lengths::needed(n);
         Tables {
-            desks: n,
-            places: vec![0; (places_len * size).div_ceil(WORD)],
-            places_len,
-            rows: vec![0; rows],
-            marks: vec![0; marks],
-            stores: vec![0; stores],
+            places: vec![0; lent.places * place_words()],
+            rows: vec![0; lent.rows],
+            marks: vec![0; lent.marks],
+            stores: vec![0; lent.stores],
+            lent,
         }
     }
 
     /// Fresh tables for n desks, or the refusal's number.
     pub(crate) fn set_up(n: usize) -> Result<Tables, usize> {
-        let mut t = Tables::lent(n);
-        // SAFETY: each pointer goes with its own vector's length, and the zeros of a place are one.
+        let mut t = Tables::zeros(n);
+        // SAFETY: no pointer goes with more than its own vector's length, and the zeros of a place are one.
         let refusal = unsafe {
             spindlefig_set_up(
                 n,
                 t.places.as_mut_ptr(),
-                t.places_len,
+                t.lent.places,
                 t.rows.as_mut_ptr(),
-                t.rows.len(),
+                t.lent.rows,
                 t.marks.as_mut_ptr(),
-                t.marks.len(),
+                t.lent.marks,
                 t.stores.as_mut_ptr(),
-                t.stores.len(),
+                t.lent.stores,
             )
         };
         match refusal {
@@ -165,24 +183,43 @@ impl Tables {
         }
     }
 
+    /// The number at the front of the marks.
     pub(crate) fn desks(&self) -> usize {
-        self.desks
+        self.marks[0] as usize
+    }
+
+    /// From now on lends what is said, or all there is where that is less; answers what was lent.
+    pub(crate) fn lend(&mut self, lent: Lent) -> Lent {
+        let before = Lent {
+            head: self.marks[0],
+            places: self.lent.places,
+            rows: self.lent.rows,
+            marks: self.lent.marks,
+            stores: self.lent.stores,
+        };
+        self.marks[0] = lent.head;
+        self.lent = Lengths {
+            places: lent.places.min(self.places.len() / place_words()),
+            rows: lent.rows.min(self.rows.len()),
+            marks: lent.marks.min(self.marks.len()),
+            stores: lent.stores.min(self.stores.len()),
+        };
+        before
     }
 
     pub(crate) fn receive(&mut self, desk: usize, time: u32, rest: &[u8], out: &mut [u8]) -> Row {
         let mut row = [0; ROW];
-        // SAFETY: each pointer goes with its own slice's length, and set-up made the places.
+        // SAFETY: no pointer goes with more than its own slice's length, and set-up made the places.
         unsafe {
             spindlefig_receive(
-                self.desks,
                 self.places.as_mut_ptr(),
-                self.places_len,
+                self.lent.places,
                 self.rows.as_mut_ptr(),
-                self.rows.len(),
+                self.lent.rows,
                 self.marks.as_mut_ptr(),
-                self.marks.len(),
+                self.lent.marks,
                 self.stores.as_mut_ptr(),
-                self.stores.len(),
+                self.lent.stores,
                 desk,
                 time,
                 rest.as_ptr(),
@@ -198,16 +235,15 @@ impl Tables {
 
     /// 0, or the refusal's number.
     pub(crate) fn give_up(&mut self, desk: usize, time: u32) -> usize {
-        // SAFETY: each pointer goes with its own vector's length, and set-up made the places.
+        // SAFETY: no pointer goes with more than its own vector's length, and set-up made the places.
         unsafe {
             spindlefig_give_up(
-                self.desks,
                 self.places.as_mut_ptr(),
-                self.places_len,
+                self.lent.places,
                 self.rows.as_mut_ptr(),
-                self.rows.len(),
+                self.lent.rows,
                 self.marks.as_mut_ptr(),
-                self.marks.len(),
+                self.lent.marks,
                 desk,
                 time,
             )
@@ -216,14 +252,13 @@ impl Tables {
 
     /// The length of the description, which is put at the front of the output.
     pub(crate) fn lookup(&self, desk: usize, index: usize, book: &[u8], out: &mut [u8]) -> usize {
-        // SAFETY: each pointer goes with its own slice's length.
+        // SAFETY: no pointer goes with more than its own slice's length.
         unsafe {
             spindlefig_lookup(
-                self.desks,
                 self.marks.as_ptr(),
-                self.marks.len(),
+                self.lent.marks,
                 self.stores.as_ptr(),
-                self.stores.len(),
+                self.lent.stores,
                 desk,
                 index,
                 book.as_ptr(),
@@ -322,12 +357,23 @@ mod tests {
 
     #[test]
     fn the_tables_are_what_the_desks_need() {
-        let t = Tables::lent(8);
-        assert_eq!((t.places_len, t.places.len() * WORD), (32, 32 * 1472));
+        let t = Tables::zeros(8);
+        assert_eq!((t.lent.places, t.places.len() * WORD), (32, 32 * 1472));
         assert_eq!(
             (t.rows.len(), t.marks.len(), t.stores.len()),
-            (128, 16, 133120)
+            (128, 3 + 16, 133120)
         );
-        assert!(Tables::lent(9).places.is_empty());
+        assert!(Tables::zeros(9).places.is_empty());
+    }
+
+    #[test]
+    fn set_up_puts_the_number_of_desks_in_front() {
+        for n in 1..=8 {
+            let Ok(t) = Tables::set_up(n) else {
+                panic!("{n} desks are refused");
+            };
+            assert_eq!(t.marks[..3], [n as u32, 0, 0]);
+            assert_eq!(t.desks(), n);
+        }
     }
 }

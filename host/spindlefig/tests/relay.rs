@@ -1,6 +1,6 @@
 //! What only a caller in Rust can ask of the relay.
 
-use spindlefig::{Caption, Outcome, Refusal, Relay, Writer, DESCRIPTION, OUTPUT};
+use spindlefig::{Caption, Lent, Outcome, Refusal, Relay, Writer, DESCRIPTION, OUTPUT};
 
 const HI: &[u8] = b"\x01\x00\x0a\x80\x01\x5f\x90\x00\x02Hi";
 
@@ -49,6 +49,61 @@ fn a_clone_goes_its_own_way() {
     let late = relay.receive(7, 1000, HI, &mut out).outcome;
     assert_eq!(late, Outcome::Refused(Refusal::Late));
     assert_eq!(other.receive(7, 1000, HI, &mut out).outcome, first);
+}
+
+/// All the memory of two desks, with the number that set-up leaves.
+const TWO: Lent = Lent {
+    head: 2,
+    places: 8,
+    rows: 32,
+    marks: 7,
+    stores: 33280,
+};
+
+/// Whether a call of each kind is refused by 1 and leaves the memory and the output as they stood.
+fn is_refused(relay: &mut Relay, lent: Lent) -> bool {
+    relay.lending(lent, |relay| {
+        let before = relay.clone();
+        let mut out = [7; OUTPUT];
+        let answer = relay.receive(0, 1000, HI, &mut out);
+        let refused = answer.outcome == Outcome::Refused(Refusal::Desk)
+            && (answer.used, answer.next) == (0, 1000)
+            && relay.give_up(0, 1000) == Err(Refusal::Desk)
+            && relay.lookup(0, 7, &[]).is_empty();
+        refused && out == [7; OUTPUT] && *relay == before
+    })
+}
+
+#[test]
+fn a_head_that_is_not_1_to_8_is_refused() {
+    let mut relay = Relay::set_up(2).unwrap();
+    relay.receive(0, 0, b"\x05\x00\x08\x07green", &mut [0; OUTPUT]);
+    for head in [0, 9, 255, 256 + 2, u32::MAX] {
+        assert!(is_refused(&mut relay, Lent { head, ..TWO }), "{head}");
+    }
+    assert_eq!(relay.lookup(0, 7, &[]), b"green");
+    assert_eq!(relay.desks(), 2);
+}
+
+#[test]
+fn memory_too_short_for_the_head_is_refused() {
+    let mut relay = Relay::set_up(2).unwrap();
+    for head in 3..=8 {
+        assert!(is_refused(&mut relay, Lent { head, ..TWO }), "{head}");
+    }
+    for marks in 0..TWO.marks {
+        assert!(is_refused(&mut relay, Lent { marks, ..TWO }), "{marks}");
+    }
+    let (places, rows) = (TWO.places - 1, TWO.rows - 1);
+    for short in [Lent { places, ..TWO }, Lent { rows, ..TWO }] {
+        let given_up = relay.lending(short, |relay| relay.give_up(0, 5));
+        assert_eq!(given_up, Err(Refusal::Desk));
+    }
+    let stores = TWO.stores - 1;
+    let answer = relay.lending(Lent { stores, ..TWO }, |relay| {
+        relay.receive(0, 5, HI, &mut [0; OUTPUT])
+    });
+    assert_eq!(answer.outcome, Outcome::Refused(Refusal::Desk));
 }
 
 #[test]

@@ -4,6 +4,12 @@ use borrow.Author.Needs.{needs}
 use Rattle.hall.proofs.give_up.Statement.{statement}
 use Rattle.hall.proofs.give_up.Tie as tie
 
+returns : tie.Need-returns
+returns c =
+    let given = c .before .before .before in
+    let h = given .before .before .before .before .before .before .before .before .args .h in
+    (given .give-up .ensures (h .stores), refl)
+
 pub give-up-spec : {M : Type 1} → statement M
 give-up-spec =
     tie.close
@@ -11,4 +17,4 @@ give-up-spec =
     (λ c. search needs)
     (λ c. search needs)
     (λ c κs. search needs)
-    (λ c. (c .before .before .before .give-up .ensures (c .before .before .before .before .before .before .before .before .before .before .before .before .args .h .stores), refl, refl)))
+    returns)

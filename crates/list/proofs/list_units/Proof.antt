@@ -5,7 +5,7 @@ use native.Mathlib.Omega.{arith}
 use mathlib.Core.Path.{_≡_, refl, _∙_}
 use denote.Ref.{now}
 use lib.ListN.{length}
-use Rattle.relay.specs.Relay.{tables}
+use Rattle.memory.specs.Relay.{tables}
 use Rattle.lines.specs.Typed.{typed}
 use Rattle.list.specs.Listed.{linesFrom}
 use Rattle.list.specs.Runs.{Listing, begin, called-of, turn, turn-used, finish}
@@ -13,44 +13,50 @@ use Rattle.list.proofs.list_units.Statement.{statement}
 use Rattle.list.proofs.list_units.Tie as tie
 
 abbrev Inv-loop : tie.InvT-loop
-Inv-loop relay rows₀ marks₀ stores₀ input text₀ places₀ time₀ at₀ next₀ many rows marks stores text places time at next =
+Inv-loop rows₀ marks₀ stores₀ input text₀ places₀ time₀ at₀ next₀ many rows marks stores text places time at next =
     Listing (typed text₀ 0 (linesFrom (length input) (tables places₀ rows₀ marks₀ stores₀) 0 0 input)) input text (tables places rows marks stores) time at next
     × ((length rows ≡ length rows₀) × ((length marks ≡ length marks₀) × ((length stores ≡ length stores₀) × (length text ≡ length text₀))))
 
 abbrev μ-loop : tie.MeasureT-loop
-μ-loop relay rows₀ marks₀ stores₀ input text₀ places₀ time₀ at₀ next₀ many rows marks stores text places time at next = length input - at
+μ-loop rows₀ marks₀ stores₀ input text₀ places₀ time₀ at₀ next₀ many rows marks stores text places time at next = length input - at
 
 loop-holds : tie.Need-loop-holds Inv-loop μ-loop
-loop-holds c = (begin _ _ _ (c .before .before .before .before .before .pre .1), (refl, (refl, (refl, refl))))
+loop-holds c = (begin _ _ _ (c .before .before .before .before .before .pre), (refl, (refl, (refl, refl))))
 
 add-at : tie.Need-add-at Inv-loop μ-loop
 add-at c =
-    let l = c .before .before .before .before .before .before .before .before .before .before .before .before .before .before .before .before .before .before .before .before .before .loop in
-    let a = c .before .before .before .before .before .before .before .before .before .before .before .before .before .before .before .before .before .before .before .before .before .before .before .before .before .before .before .args in
+    let got = c .before .before .before .before .before .before .before .before .before .before .before .before .before .before in
+    let test = got .before .before .before .before .before .before in
+    let l = test .before .loop in
+    let a = test .before .before .before .before .before .before .before .args in
     let s = (tables (l .places) (l .rows) (l .marks) (l .stores)) in
-    let d = called-of _ _ s (l .time) (l .at) (now (a .input)) (c .before .before .before .before .before .before .before .before .before .before .before .before .before .before .before .before .before .before .before .before .before .before .before .before .before .before .before .pre .0) (c .before .before .before .before .before .before .before .before .before .before .before .before .before .before .receive .ensures) in
-    let u = turn-used _ (now (a .input)) (l .text) s (l .time) (l .at) (l .next) (l .inv .0) _ (c .before .before .before .before .before .before .before .before .before .before .before .before .before .before .before .before .before .before .before .before .loop-test .taken) d in
-    omega (arith, c .before .before .before .before .before .before .before .before .before .before .before .before .before .before .before .before .before .before .before .before .before .before .before .before .before .before .before .good)
+    let d = called-of _ s (l .time) (l .at) (now (a .input)) (got .receive .ensures) in
+    let u = turn-used _ (now (a .input)) (l .text) s (l .time) (l .at) (l .next) (l .inv .0) _ (test .loop-test .taken) d in
+    omega (arith, test .before .before .before .before .before .before .before .good)
 
 loop-less : tie.Need-loop-less Inv-loop μ-loop
 loop-less c =
-    let l = c .before .before .before .before .before .before .before .before .before .before .before .before .before .before .before .before .before .before .before .before .before .loop in
-    let a = c .before .before .before .before .before .before .before .before .before .before .before .before .before .before .before .before .before .before .before .before .before .before .before .before .before .before .before .args in
+    let got = c .before .before .before .before .before .before .before .before .before .before .before .before .before .before in
+    let test = got .before .before .before .before .before .before in
+    let l = test .before .loop in
+    let a = test .before .before .before .before .before .before .before .args in
     let s = (tables (l .places) (l .rows) (l .marks) (l .stores)) in
-    let d = called-of _ _ s (l .time) (l .at) (now (a .input)) (c .before .before .before .before .before .before .before .before .before .before .before .before .before .before .before .before .before .before .before .before .before .before .before .before .before .before .before .pre .0) (c .before .before .before .before .before .before .before .before .before .before .before .before .before .before .receive .ensures) in
-    let u = turn-used _ (now (a .input)) (l .text) s (l .time) (l .at) (l .next) (l .inv .0) _ (c .before .before .before .before .before .before .before .before .before .before .before .before .before .before .before .before .before .before .before .before .loop-test .taken) d in
-    omega (arith, c .before .before .before .before .before .before .before .before .before .before .before .before .before .before .before .before .before .before .before .before .loop-test .taken)
+    let d = called-of _ s (l .time) (l .at) (now (a .input)) (got .receive .ensures) in
+    let u = turn-used _ (now (a .input)) (l .text) s (l .time) (l .at) (l .next) (l .inv .0) _ (test .loop-test .taken) d in
+    omega (arith, test .loop-test .taken)
 
 loop-again : tie.Need-loop-again Inv-loop μ-loop
 loop-again c =
-    let l = c .before .before .before .before .before .before .before .before .before .before .before .before .before .before .before .before .before .before .before .before .before .loop in
-    let a = c .before .before .before .before .before .before .before .before .before .before .before .before .before .before .before .before .before .before .before .before .before .before .before .before .before .before .before .args in
+    let got = c .before .before .before .before .before .before .before .before .before .before .before .before .before .before in
+    let test = got .before .before .before .before .before .before in
+    let l = test .before .loop in
+    let a = test .before .before .before .before .before .before .before .args in
     let s = (tables (l .places) (l .rows) (l .marks) (l .stores)) in
-    let d = called-of _ _ s (l .time) (l .at) (now (a .input)) (c .before .before .before .before .before .before .before .before .before .before .before .before .before .before .before .before .before .before .before .before .before .before .before .before .before .before .before .pre .0) (c .before .before .before .before .before .before .before .before .before .before .before .before .before .before .receive .ensures) in
-    let k = c .before .before .before .before .before .before .before .before .before .before .before .before .before .before .receive .kept in
+    let d = called-of _ s (l .time) (l .at) (now (a .input)) (got .receive .ensures) in
+    let k = got .receive .kept in
     let i = l .inv .1 in (
-      turn _ (now (a .input)) (l .text) s (l .time) (l .at) (l .next) (l .inv .0) _ _ _ (c .before .before .before .before .before .before .before .before .before .before .before .before .before .before .before .before .before .before .before .before .loop-test .taken) d (c .before .before .before .before .put-line .ensures),
-      (k .1 .1 .0 ∙ i .0, (k .1 .1 .1 .0 ∙ i .1 .0, (k .1 .1 .1 .1 .0 ∙ i .1 .1 .0, c .before .before .before .before .put-line .kept .0 ∙ i .1 .1 .1))),
+      turn _ (now (a .input)) (l .text) s (l .time) (l .at) (l .next) (l .inv .0) _ _ _ (test .loop-test .taken) d (c .before .before .before .before .put-line .ensures),
+      (k .1 .0 ∙ i .0, (k .1 .1 .0 ∙ i .1 .0, (k .1 .1 .1 .0 ∙ i .1 .1 .0, c .before .before .before .before .put-line .kept .0 ∙ i .1 .1 .1))),
     )
 
 returns : tie.Need-returns Inv-loop μ-loop

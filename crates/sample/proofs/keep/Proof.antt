@@ -1,4 +1,4 @@
--- `sample::keep` meets its contract: the bytes are what `put_in` leaves, and the rest is stored as it stands. Assumes nothing.
+-- `sample::keep` meets its contract: the bytes are what `octets::put` leaves, and the rest is stored as it stands. Assumes nothing.
 use Prim.Native.Nat.{ℕ, _-_, _*_, _%_, _^_, _≤_}
 use native.Mathlib.Omega.{arith}
 use native.Mathlib.Nat.{one-mul, mod-eq-of-lt}
@@ -18,25 +18,25 @@ bit THIS h = rw one-mul (mod-eq-of-lt (pow-lt {j = 32} (omega arith)))
 returns-3 : tie.Need-returns-3
 unfolding kept laid telling
 returns-3 c =
-    let e = c .before .before .before .before in
+    let e = c .before .before .before .before .before in
     no _ _ (inside _ (omega (arith, e)) (e .if2 .left))
-    (yes _ _ (cc) (rw (bit _ (e .if2 .left), c .before .before .before .grown .ensures, c .before .put-in .ensures)))
+    (yes _ _ (cc) (rw (bit _ (e .if2 .left), c .before .before .before .grown .ensures, c .before .put .ensures)))
 
 returns-4 : tie.Need-returns-4
 unfolding kept laid telling toldOf
 returns-4 c =
     let g = c .before .before .before in
-    let e = g .before .before .before in
+    let e = g .before .before .before .before in
     no _ _ (inside _ (omega (arith, e)) (e .if2 .left))
-    (no _ _ (cc) (yes _ _ (eq _ _ (cc)) (rw (bit _ (e .if2 .left), g .before .before .grown .ensures, g .put-in .ensures))))
+    (no _ _ (cc) (yes _ _ (eq _ _ (cc)) (rw (bit _ (e .if2 .left), g .before .before .grown .ensures, g .put .ensures))))
 
 returns-5 : tie.Need-returns-5
 unfolding kept laid telling
 returns-5 c =
     let g = c .before .before .before in
-    let e = g .before .before .before in
+    let e = g .before .before .before .before in
     no _ _ (inside _ (omega (arith, e)) (e .if2 .left))
-    (no _ _ (cc) (no _ _ (ne _ _ (c .if4 .left)) (rw (bit _ (e .if2 .left), g .before .before .grown .ensures, g .put-in .ensures))))
+    (no _ _ (cc) (no _ _ (ne _ _ (c .if4 .left)) (rw (bit _ (e .if2 .left), g .before .before .grown .ensures, g .put .ensures))))
 
 pub keep-spec : {M : Type 1} → statement M
 unfolding kept

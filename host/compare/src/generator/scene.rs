@@ -2,10 +2,10 @@
 
 use super::{books, boxes, cut, units};
 use crate::call::Call;
-use crate::opinion::{Caption, Opinion};
+use crate::opinion::{Caption, Tools};
 use crate::player::BUFFER;
 use crate::random::Random;
-use second::Second;
+use second::{Lent, Second};
 
 const LIMITS: [usize; 14] = [
     14, 14, 15, 16, 17, 20, 24, 50, 100, 255, 1000, 1033, 1034, 1400,
@@ -84,7 +84,8 @@ impl<'a> Scene<'a> {
             61..=62 => self.march(),
             63..=75 => self.send_description(),
             76..=80 => self.give_up(),
-            81..=88 => self.look(),
+            81..=87 => self.look(),
+            88 => self.lend(),
             89..=90 => self.write_oddly(),
             91..=92 => self.describe(),
             93..=95 => self.check(),
@@ -306,6 +307,58 @@ impl<'a> Scene<'a> {
         }
         let book = self.book.clone();
         self.calls.push(Call::Look { desk, index, book });
+    }
+
+    /// Calls with memory that set-up did not make. Where the call is let through nonetheless, it is
+    /// left out when it is played.
+    fn lend(&mut self) {
+        let before = self.calls.len();
+        match self.random.below(4) {
+            0 | 1 => self.send_common(),
+            2 => self.give_up(),
+            _ => self.look(),
+        }
+        let lent = self.other_memory();
+        if self.calls.len() > before {
+            let call = self.calls.pop().map(Box::new);
+            self.calls
+                .extend(call.map(|call| Call::Lent { lent, call }));
+        }
+    }
+
+    /// Another number in front, or too little of something, or both.
+    fn other_memory(&mut self) -> Lent {
+        let mut lent = Lent::needed(self.n);
+        let way = self.random.below(4);
+        if way != 0 {
+            let n = lent.head;
+            let any = self.random.number() as u32;
+            let near = self.random.below(10) as u32;
+            let heads = [
+                0,
+                9,
+                near,
+                near,
+                n - 1,
+                n + 1,
+                n + 256,
+                n << 16,
+                u32::MAX,
+                any,
+            ];
+            lent.head = self.random.pick(&heads);
+        }
+        if way < 2 {
+            let length = match self.random.below(4) {
+                0 => &mut lent.places,
+                1 => &mut lent.rows,
+                2 => &mut lent.marks,
+                _ => &mut lent.stores,
+            };
+            let any = self.random.below(*length);
+            *length = self.random.pick(&[*length - 1, any, 0, any.min(3)]);
+        }
+        lent
     }
 
     fn new_book(&mut self) -> Vec<u8> {

@@ -1,0 +1,18 @@
+-- `export::spindlefig_marks` meets its contract: where there is a relay for n desks, they are eight at most. Assumes nothing.
+use native.Mathlib.Omega.{arith}
+use mathlib.Core.Path.{refl, sym, _∙_}
+use Rattle.laws.specs.Rows.{yes, no}
+use Rattle.steps.specs.Tests.{few}
+use borrow.Author.Needs.{needs}
+use Rattle.export.proofs.spindlefig_marks.Statement.{statement}
+use Rattle.export.proofs.spindlefig_marks.Tie as tie
+
+pub spindlefig-marks-spec : {M : Type 1} → statement M
+spindlefig-marks-spec =
+    tie.close
+    (tie.spec
+    (λ c κs. search needs)
+    (λ c. yes _ _ (sym (c .before .is-improper .ensures) ∙ c .if1 .taken) refl)
+    (λ c. omega (arith, few _ (sym (c .before .is-improper .ensures) ∙ c .if1 .left)))
+    (λ c. omega (arith, few _ (sym (c .before .is-improper .ensures) ∙ c .if1 .left)))
+    (λ c. no _ _ (sym (c .before .is-improper .ensures) ∙ c .if1 .left) refl))

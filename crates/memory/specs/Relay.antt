@@ -1,0 +1,203 @@
+-- The relay: document 01, 'Shares of the places', refusals 1 and 2, and what a call of one desk does to the memory of all. The desk's
+-- own definition (`received`) settles the call from its own things; this page says which they are, and puts them back. Assumes nothing.
+use Prim.Native.Nat.{ℕ, zero, suc, _+_, _-_, _*_}
+use mathlib.Core.Bool.{Bool, not}
+use mathlib.Core.List.{List, [], _∷_, _++_}
+use lib.ListN.{length, take, drop, getD, set, replicate}
+use lib.Seq.{sets}
+use Rattle.laws.specs.Rows.{_⇒_⁏_, _or_, _<?_, _=?_}
+use Rattle.laws.specs.Region.{part, splice}
+use Rattle.laws.specs.Table.{seek, count}
+use Rattle.laws.specs.Sums.{sum}
+use Rattle.paper.specs.Limits.{sampleMost, finishedMost, inBand, desksMost, ownPlaces, marksEach, storeSize, headSize, desksAt}
+use Rattle.paper.specs.Limits.{places, rowsNeed, marksNeed, storesNeed}
+use Rattle.paper.specs.Words.{numberOf}
+use Rattle.paper.specs.declared.Refusal.the-variants as R
+use Rattle.paper.specs.declared.Answer.{Answer}
+use Rattle.paper.specs.declared.Name.{Name}
+use Rattle.sample.specs.declared.Place.{Place}
+use Rattle.sample.specs.Place.{closed}
+use Rattle.style.specs.Shown.{shown}
+use Rattle.desk.specs.declared.Shares.{Shares}
+use Rattle.desk.specs.declared.GivenUp.{GivenUp}
+use Rattle.desk.specs.declared.GivenUp.the-variants as G
+use Rattle.desk.specs.Desk.{Own, After, Given, own, refuse, newestOf, received, givenUp}
+use Rattle.memory.specs.Table.{vacant, mine, isAt}
+use Rattle.memory.specs.declared.Started.{Started}
+use Rattle.memory.specs.declared.Started.the-variants.{Ready, Refused}
+
+-- ---- the lent memory, and what of it is whose
+pub record Tables : Type 0 where
+  pub places : List Place
+  pub rows : List ℕ
+  pub marks : List ℕ
+  pub stores : List ℕ
+
+abbrev pub tables : List Place → (rows marks stores : List ℕ) → Tables
+tables places rows marks stores = record { places = places; rows = rows; marks = marks; stores = stores }
+
+-- how many desks there are: set-up puts it down in the head of the marks, and every call reads it there
+abbrev pub desksOf : (marks : List ℕ) → ℕ
+desksOf marks = getD marks desksAt 0
+
+-- the 4n places
+abbrev pub placesOf : (n : ℕ) → Tables → List Place
+placesOf n s = take (places n) (s .places)
+
+-- a desk's own row of finished times, marks and store
+abbrev pub rowOf : (desk : ℕ) → List ℕ → List ℕ
+rowOf desk rows = part (finishedMost * desk) finishedMost rows
+
+abbrev pub marksOf : (desk : ℕ) → List ℕ → List ℕ
+marksOf desk marks = part (headSize + marksEach * desk) marksEach marks
+
+abbrev pub storeOf : (desk : ℕ) → List ℕ → List ℕ
+storeOf desk stores = part (storeSize * desk) storeSize stores
+
+-- the desk's open sample of a time; a closed place where there is none
+abbrev pub openAt : (desk time : ℕ) → List Place → Place
+openAt desk time l = getD l (seek (isAt desk time) l) closed
+
+abbrev pub ownOf : (n : ℕ) → Tables → (desk time : ℕ) → (out : List ℕ) → Own
+ownOf n s desk time out =
+    own (openAt desk time (placesOf n s)) (rowOf desk (s .rows)) (marksOf desk (s .marks)) (storeOf desk (s .stores)) out
+
+-- ---- the shares: the common use is the sum, over all desks, of open samples beyond two
+abbrev pub commonUse : (n : ℕ) → List Place → ℕ
+commonUse n l = sum n (λ (e : ℕ). count (mine e) l - ownPlaces)
+
+abbrev pub sharesOf : (n desk : ℕ) → List Place → Shares
+sharesOf n desk l = record { opens = count (mine desk) l; common = commonUse n l; desks = n }
+
+-- ---- what becomes of the tables
+-- p is from now on the desk's sample of this time: it stands where that stood; where none stood, in the lowest free place
+unfoldable pub standsAt : (desk time : ℕ) → Place → List Place → ℕ
+standsAt desk time p l =
+    seek (isAt desk time) l <? length l ⇒ seek (isAt desk time) l
+    ⁏ p .used ⇒ seek vacant l
+    ⁏ length l
+
+abbrev pub placed : (desk time : ℕ) → Place → List Place → List Place
+placed desk time p l = set l (standsAt desk time p l) p
+
+-- the desk's own things put back; what lies beyond the 4n places is not touched
+abbrev pub putBack : (n : ℕ) → Tables → (desk time : ℕ) → Own → Tables
+putBack n s desk time o =
+    tables (placed desk time (o .place) (placesOf n s) ++ drop (places n) (s .places))
+    (splice (finishedMost * desk) finishedMost (o .row) (s .rows))
+    (splice (headSize + marksEach * desk) marksEach (o .marks) (s .marks))
+    (splice (storeSize * desk) storeSize (o .store) (s .stores))
+
+-- ---- refusal 1: n is not 1 to 8, the desk is not below n, or something lent is shorter than n needs
+unfoldable pub improper : (n : ℕ) → Bool
+improper n = n =? 0 or desksMost <? n
+
+unfoldable pub stranger : (n desk : ℕ) → Bool
+stranger n desk = improper n or not (desk <? n)
+
+unfoldable pub short : (need have : ℕ) → Bool
+short need have = have <? need
+
+-- give-up is lent three of the tables; of each, how many elements
+abbrev pub lacksThree : (n table rows marks : ℕ) → Bool
+lacksThree n table rows marks = short (places n) table or short (rowsNeed n) rows or short (marksNeed n) marks
+
+abbrev pub lacks : (n table rows marks stores : ℕ) → Bool
+lacks n table rows marks stores = lacksThree n table rows marks or short (storesNeed n) stores
+
+abbrev pub lacking : (n : ℕ) → Tables → Bool
+lacking n s = lacks n (length (s .places)) (length (s .rows)) (length (s .marks)) (length (s .stores))
+
+-- ---- set-up: exactly what n desks need is made fresh
+pub record Prepared : Type 0 where
+  pub tables : Tables
+  pub answer : Started
+
+-- the head; the marks of n desks: no finished time in use, no newest value
+abbrev pub head : (n : ℕ) → List ℕ
+head n = n ∷ 0 ∷ 0 ∷ []
+
+unfoldable pub ownMarks : (n : ℕ) → List ℕ
+ownMarks zero = []
+ownMarks (suc n) = 0 ∷ inBand ∷ ownMarks n
+
+abbrev pub freshMarks : (n : ℕ) → List ℕ
+freshMarks n = head n ++ ownMarks n
+
+abbrev pub freshTables : (n : ℕ) → Tables → Tables
+freshTables n s =
+    tables (sets (s .places) 0 (replicate (places n) closed)) (sets (s .rows) 0 (replicate (rowsNeed n) 0))
+    (sets (s .marks) 0 (freshMarks n)) (sets (s .stores) 0 (replicate (storesNeed n) 0))
+
+abbrev pub prepared : Tables → Started → Prepared
+prepared s a = record { tables = s; answer = a }
+
+-- 0, or the refusal's number
+abbrev pub startedNumber : Started → ℕ
+startedNumber Ready = 0
+startedNumber (Refused r) = numberOf r
+
+unfoldable pub setUp : (n : ℕ) → Tables → Prepared
+setUp n s =
+    improper n or lacking n s ⇒ prepared s (Refused R.Desk)
+    ⁏ prepared (freshTables n s) Ready
+
+-- ---- receive: 1, 2, then the desk's own order
+pub record Done : Type 0 where
+  pub tables : Tables
+  pub out : List ℕ
+  pub answer : Answer
+
+abbrev pub done : Tables → (out : List ℕ) → Answer → Done
+done s out a = record { tables = s; out = out; answer = a }
+
+-- 1 (`one` says whether), 2, then the desk's own order; 1 and 2 use no bytes
+unfoldable pub ordered : (one : Bool) → Shares → Own → (desk time : ℕ) → (rest : List ℕ) → After
+ordered one h s desk time rest =
+    one ⇒ refuse s 0 time R.Desk
+    ⁏ length (s .out) <? sampleMost ⇒ refuse s 0 time R.Output
+    ⁏ received h s desk time rest
+
+-- the desk's own things as the call leaves them, put back
+abbrev pub settled : (n : ℕ) → Tables → (desk time : ℕ) → After → Done
+settled n s desk time a = done (putBack n s desk time (a .own)) (a .own .out) (a .answer)
+
+-- among n desks
+unfoldable pub receivedAmong : (n : ℕ) → Tables → (desk time : ℕ) → (rest out : List ℕ) → Done
+receivedAmong n s desk time rest out =
+    settled n s desk time
+    (ordered (stranger n desk or lacking n s) (sharesOf n desk (placesOf n s)) (ownOf n s desk time out) desk time rest)
+
+abbrev pub receivedAt : Tables → Name → (rest out : List ℕ) → Done
+receivedAt s who rest out = receivedAmong (desksOf (s .marks)) s (who .desk) (who .time) rest out
+
+-- ---- give-up: 1, 11, or the place is freed and the time marked. It is lent no store and no output
+pub record Released : Type 0 where
+  pub tables : Tables
+  pub answer : GivenUp
+
+abbrev pub released : Tables → GivenUp → Released
+released s a = record { tables = s; answer = a }
+
+unfoldable pub yielded : (one : Bool) → Own → (time : ℕ) → Given
+yielded one s time = one ⇒ record { own = s; answer = G.Refused R.Desk } ⁏ givenUp s time
+
+abbrev pub returned : (n : ℕ) → Tables → (desk time : ℕ) → Given → Released
+returned n s desk time a = released (putBack n s desk time (a .own)) (a .answer)
+
+unfoldable pub givenUpAmong : (n : ℕ) → Tables → (desk time : ℕ) → Released
+givenUpAmong n s desk time =
+    returned n s desk time
+    (yielded (stranger n desk or lacksThree n (length (s .places)) (length (s .rows)) (length (s .marks))) (ownOf n s desk time []) time)
+
+abbrev pub givenUpAt : Tables → Name → Released
+givenUpAt s who = givenUpAmong (desksOf (s .marks)) s (who .desk) (who .time)
+
+-- ---- lookup: it is lent the marks and the stores alone
+unfoldable pub lookedUpAmong : (n : ℕ) → (marks stores : List ℕ) → (desk index : ℕ) → (book : List ℕ) → List ℕ
+lookedUpAmong n marks stores desk index book =
+    stranger n desk or short (marksNeed n) (length marks) or short (storesNeed n) (length stores) ⇒ []
+    ⁏ shown book (storeOf desk stores) (newestOf (marksOf desk marks)) index
+
+abbrev pub lookedUp : (marks stores : List ℕ) → (desk index : ℕ) → (book : List ℕ) → List ℕ
+lookedUp marks stores desk index book = lookedUpAmong (desksOf marks) marks stores desk index book

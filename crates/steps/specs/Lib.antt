@@ -1,0 +1,5 @@
+pub mod Plan
+pub mod Tests
+pub mod Steps
+pub mod Start
+pub mod Back

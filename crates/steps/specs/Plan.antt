@@ -1,0 +1,162 @@
+-- The steps of a call in between: what of the table is looked at, what the shares hear of it, and what a call leaves of everything but
+-- the table. Assumes nothing.
+use Prim.Native.Nat.{ℕ, _+_, _-_, _*_, _≤_, min}
+use mathlib.Core.Bool.{Bool}
+use mathlib.Core.List.{List, []}
+use lib.ListN.{length, getD}
+use lib.Seq.{sets}
+use Rattle.laws.specs.Rows.{_⇒_⁏_, _or_, _and_, _<?_, _=?_}
+use Rattle.laws.specs.Region.{part, splice}
+use Rattle.laws.specs.Sums.{sum}
+use Rattle.paper.specs.Limits.{sampleMost, finishedMost, desksMost, ownPlaces, marksEach, storeSize, headSize, places}
+use Rattle.paper.specs.declared.Answer.{Answer}
+use Rattle.paper.specs.declared.Name.{Name}
+use Rattle.paper.specs.declared.Refusal.the-variants as R
+use Rattle.unit.specs.declared.Unit.{Unit}
+use Rattle.unit.specs.declared.Reading.{Reading}
+use Rattle.sample.specs.declared.Place.{Place}
+use Rattle.sample.specs.Place.{closed}
+use Rattle.desk.specs.declared.Shares.{Shares}
+use Rattle.desk.specs.declared.GivenUp.{GivenUp}
+use Rattle.desk.specs.declared.GivenUp.the-variants as G
+use Rattle.desk.specs.Desk.{Own, After, Given, own, refuse, partTaken}
+use Rattle.settle.specs.declared.Arrival.{Arrival}
+use Rattle.settle.specs.Settled.{hasPlace, laid, passed}
+use Rattle.memory.specs.declared.Started.{Started}
+use Rattle.memory.specs.declared.Started.the-variants.{Ready, Refused}
+use Rattle.memory.specs.Relay.{rowOf, marksOf, storeOf, desksOf, improper, stranger, lacks, lacksThree, freshMarks, yielded}
+use Rattle.steps.specs.declared.tests.Gate.{Gate}
+use Rattle.steps.specs.declared.tests.Gate.the-variants.{Through, Shut}
+
+-- ---- what is looked at: of `len` places that are lent, those of n desks
+unfoldable pub reachOf : (n len : ℕ) → ℕ
+reachOf n len = desksMost <? n ⇒ 0 ⁏ min (places n) len
+
+-- none where the unit names no sample
+abbrev pub reachFor : (n len : ℕ) → Unit → ℕ
+reachFor n len u = hasPlace u ⇒ reachOf n len ⁏ 0
+
+-- the desk's own open samples are counted only where its sample was not found among the first m places; those of all desks only where
+-- two or more of its own are open
+unfoldable pub askedOf : (at m : ℕ) → ℕ
+askedOf at m = at <? m ⇒ 0 ⁏ m
+
+unfoldable pub beyondOf : (opens m : ℕ) → ℕ
+beyondOf opens m = opens <? ownPlaces ⇒ 0 ⁏ m
+
+-- the shares, from the desk's open samples and those of each desk
+abbrev pub commonSeen : (each : List ℕ) → (n : ℕ) → ℕ
+commonSeen each n = sum (min n desksMost) (λ (e : ℕ). getD each e 0 - ownPlaces)
+
+abbrev pub sharesSeen : (opens : ℕ) → (each : List ℕ) → (n : ℕ) → Shares
+sharesSeen opens each n = record { opens = opens; common = commonSeen each n; desks = n }
+
+-- no desk has more open samples than there can be places
+abbrev pub Bounded : (each : List ℕ) → Type 0
+Bounded each = (e : ℕ) → getD each e 0 ≤ places desksMost
+
+-- where a part is kept: in the place of its sample, else in the lowest free one, where the part does not end its sample at once; `len`
+-- where in none
+unfoldable pub spotOf : (at low m len total : ℕ) → ℕ
+spotOf at low m len total = at <? m ⇒ at ⁏ low <? m and 1 <? total ⇒ low ⁏ len
+
+-- ---- 1 and 2
+unfoldable pub gateOf : (n table rows marks stores desk out : ℕ) → Gate
+gateOf n table rows marks stores desk out =
+    stranger n desk or lacks n table rows marks stores ⇒ Shut R.Desk
+    ⁏ out <? sampleMost ⇒ Shut R.Output
+    ⁏ Through
+
+-- 1 (`one` says whether), 2, then what the desk makes of it
+unfoldable pub gated : (one : Bool) → Own → (time : ℕ) → After → After
+gated one s time a =
+    one ⇒ refuse s 0 time R.Desk
+    ⁏ length (s .out) <? sampleMost ⇒ refuse s 0 time R.Output
+    ⁏ a
+
+-- ---- what a call leaves of everything but the table, and its answer
+pub record Plan : Type 0 where
+  pub place : Place
+  pub answer : Answer
+  pub rows : List ℕ
+  pub marks : List ℕ
+  pub stores : List ℕ
+  pub out : List ℕ
+
+abbrev pub plan : Place → Answer → (rows marks stores out : List ℕ) → Plan
+plan p a rows marks stores out = record { place = p; answer = a; rows = rows; marks = marks; stores = stores; out = out }
+
+abbrev pub planOf : (desk : ℕ) → (rows marks stores : List ℕ) → After → Plan
+planOf desk rows marks stores a =
+    plan (a .own .place) (a .answer) (splice (finishedMost * desk) finishedMost (a .own .row) rows)
+    (splice (headSize + marksEach * desk) marksEach (a .own .marks) marks)
+    (splice (storeSize * desk) storeSize (a .own .store) stores) (a .own .out)
+
+-- the desk's own things, p being its sample of this time
+abbrev pub ownAt : (desk : ℕ) → Place → (rows marks stores out : List ℕ) → Own
+ownAt desk p rows marks stores out = own p (rowOf desk rows) (marksOf desk marks) (storeOf desk stores) out
+
+-- `table` places are lent; a is what the desk makes of its own things
+abbrev pub settledPlan : (table : ℕ) → Place → (rows marks stores out : List ℕ) → Name → (Own → After) → Plan
+settledPlan table p rows marks stores out who a =
+    planOf (who .desk) rows marks stores
+    (gated (stranger (desksOf marks) (who .desk) or lacks (desksOf marks) table (length rows) (length marks) (length stores))
+    (ownAt (who .desk) p rows marks stores out) (who .time) (a (ownAt (who .desk) p rows marks stores out)))
+
+-- a part
+abbrev pub partOfRest : Arrival → (rest : List ℕ) → List ℕ
+partOfRest x rest = part (x .part .start) (x .part .len) rest
+
+unfoldable pub partPlanned : (table : ℕ) → Shares → Place → (rows marks stores out : List ℕ) → Name → Arrival → (rest : List ℕ) → Plan
+partPlanned table h p rows marks stores out who x rest =
+    settledPlan table p rows marks stores out who
+    (λ (s : Own). partTaken h s (who .desk) (who .time) (x .used) (x .part) (partOfRest x rest))
+
+-- in a free place that was to be opened nothing changes where no sample was
+abbrev pub laidPlan : Place → Plan → Plan
+laidPlan before x = plan (laid before (x .place)) (x .answer) (x .rows) (x .marks) (x .stores) (x .out)
+
+-- any other unit
+unfoldable pub passPlanned : (table : ℕ) → Place → (rows marks stores out : List ℕ) → Name → Reading → (rest : List ℕ) → Plan
+passPlanned table p rows marks stores out who r rest =
+    settledPlan table p rows marks stores out who (λ (s : Own). passed s (who .time) r rest)
+
+-- ---- give-up
+pub record Yield : Type 0 where
+  pub place : Place
+  pub answer : GivenUp
+  pub rows : List ℕ
+  pub marks : List ℕ
+
+abbrev pub yield : Place → GivenUp → (rows marks : List ℕ) → Yield
+yield p a rows marks = record { place = p; answer = a; rows = rows; marks = marks }
+
+abbrev pub yieldOf : (desk : ℕ) → (rows marks : List ℕ) → Given → Yield
+yieldOf desk rows marks a =
+    yield (a .own .place) (a .answer) (splice (finishedMost * desk) finishedMost (a .own .row) rows)
+    (splice (headSize + marksEach * desk) marksEach (a .own .marks) marks)
+
+unfoldable pub yielding : (table : ℕ) → Place → (rows marks : List ℕ) → Name → Yield
+yielding table p rows marks who =
+    yieldOf (who .desk) rows marks
+    (yielded (stranger (desksOf marks) (who .desk) or lacksThree (desksOf marks) table (length rows) (length marks))
+    (own p (rowOf (who .desk) rows) (marksOf (who .desk) marks) [] []) (who .time))
+
+-- the place after a give-up, and which place is to be freed: `len` where none
+abbrev pub placeAfter : GivenUp → Place → Place
+placeAfter G.Freed p = closed
+placeAfter (G.Refused r) p = p
+
+abbrev pub freedAt : GivenUp → (at len : ℕ) → ℕ
+freedAt G.Freed at len = at
+freedAt (G.Refused r) at len = len
+
+-- ---- set-up: the number of desks made, which is 0 where it is refused
+unfoldable pub fitting : (n table rows marks stores : ℕ) → ℕ
+fitting n table rows marks stores = improper n or lacks n table rows marks stores ⇒ 0 ⁏ n
+
+unfoldable pub startedOf : (n : ℕ) → Started
+startedOf n = n =? 0 ⇒ Refused R.Desk ⁏ Ready
+
+unfoldable pub madeMarks : (n : ℕ) → List ℕ → List ℕ
+madeMarks n l = n =? 0 ⇒ l ⁏ sets l 0 (freshMarks n)

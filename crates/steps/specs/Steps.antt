@@ -1,0 +1,264 @@
+-- One law for each way that the steps return, in the code's own values. Assumes nothing.
+use Prim.Native.Nat.{ℕ, _+_, _-_, _*_, _<_}
+use native.Mathlib.Omega.{arith}
+use mathlib.Core.Path.{_≡_, refl, sym, ap, _∙_}
+use mathlib.Core.Bool.{Bool, true, false}
+use mathlib.Core.List.{List, []}
+use lib.ListN.{length, getD, drop}
+use lib.Seq.{getD-take, getD-drop}
+use Rattle.laws.specs.Rows.{_⇒_⁏_, _<?_, yes, no, lt}
+use Rattle.laws.specs.Region.{part, splice, splice-part}
+use Rattle.paper.specs.Limits.{finishedMost, headSize, marksEach, storeSize, marksNeed, storesNeed}
+use Rattle.paper.specs.declared.Answer.{Answer}
+use Rattle.paper.specs.declared.Name.{Name}
+use Rattle.paper.specs.declared.Refusal.{Refusal}
+use Rattle.paper.specs.declared.Refusal.the-variants as R
+use Rattle.paper.specs.declared.Outcome.the-variants as O
+use Rattle.unit.specs.declared.Reading.{Reading}
+use Rattle.sample.specs.declared.Place.{Place}
+use Rattle.sample.specs.Place.{bare, closed}
+use Rattle.style.specs.Shown.{shown}
+use Rattle.desk.specs.declared.Shares.{Shares}
+use Rattle.desk.specs.declared.GivenUp.{GivenUp}
+use Rattle.desk.specs.declared.GivenUp.the-variants as G
+use Rattle.desk.specs.Desk.{Own, After, Given, own, says, turn, left, freed, refuse, newestOf, partTaken, givenUp}
+use Rattle.settle.specs.declared.Arrival.{Arrival}
+use Rattle.settle.specs.Settled.{openIn, laid, laidIn, passed}
+use Rattle.memory.specs.Relay.{desksOf, rowOf, marksOf, storeOf, stranger, short, lacksThree, yielded, lookedUp, lookedUpAmong}
+use Rattle.steps.specs.declared.tests.Gate.{Gate}
+use Rattle.steps.specs.declared.tests.Gate.the-variants.{Through, Shut}
+use Rattle.steps.specs.Plan.{gateOf, gated, Plan, plan, planOf, ownAt, settledPlan, partOfRest, partPlanned, laidPlan, passPlanned}
+use Rattle.steps.specs.Plan.{yield, yieldOf, yielding, placeAfter}
+use Rattle.steps.specs.Tests.{either, other, shut, clear}
+
+-- a part s[a..a + k] of k elements
+widths : (a k : ℕ) → a + k - a ≡ k
+widths a k = omega arith
+
+-- a desk's part of a table as the code lends it, from its start on, and the table when it came back
+abbrev deskPart : (start each : ℕ) → List ℕ → List ℕ
+deskPart start each xs = part start (start + each - start) xs
+
+abbrev deskBack : (start each : ℕ) → (ys xs : List ℕ) → List ℕ
+deskBack start each ys xs = splice start (start + each - start) ys xs
+
+abbrev rowAt : (desk : ℕ) → ℕ
+rowAt desk = finishedMost * desk
+
+abbrev markAt : (desk : ℕ) → ℕ
+markAt desk = headSize + marksEach * desk
+
+abbrev storeAt : (desk : ℕ) → ℕ
+storeAt desk = storeSize * desk
+
+-- ---- receive, whatever the desk makes of it
+module _ (table : ℕ) (p : Place) (rows marks stores out : List ℕ) (who : Name) (a : Own → After) (g : Gate)
+    (f : g ≡ gateOf (desksOf marks) table (length rows) (length marks) (length stores) (who .desk) (length out)) where
+  abbrev its : Own
+  its = ownAt (who .desk) p rows marks stores out
+
+  -- what is refused is put back as it was
+  back : (r : Refusal) → plan p (says 0 (who .time) (O.Refused r)) rows marks stores out
+      ≡ planOf (who .desk) rows marks stores (refuse its 0 (who .time) r)
+  back r =
+      rw (
+        splice-part (rowAt (who .desk)) finishedMost rows,
+        splice-part (markAt (who .desk)) marksEach marks,
+        splice-part (storeAt (who .desk)) storeSize stores,
+      )
+
+  pub plan-shut : (why : Refusal) → g ≡ Shut why
+      → plan p (says 0 (who .time) (O.Refused why)) rows marks stores out ≡ settledPlan table p rows marks stores out who a
+  unfolding gated
+  plan-shut why h =
+      back why
+      ∙ ap (planOf (who .desk) rows marks stores)
+      (shut (desksOf marks) table (length rows) (length marks) (length stores) (who .desk) (length out) g f (refuse its 0 (who .time))
+      (a its) why h)
+
+  pub plan-through : g ≡ Through → planOf (who .desk) rows marks stores (a its) ≡ settledPlan table p rows marks stores out who a
+  unfolding gated
+  plan-through h =
+      let c = clear (desksOf marks) table (length rows) (length marks) (length stores) (who .desk) (length out) g f h in
+      ap (planOf (who .desk) rows marks stores) (no _ _ (c .0) (no _ _ (c .1) refl))
+
+-- ---- a part
+module _ (table : ℕ) (h : Shares) (before : Place) (rows marks stores out : List ℕ) (who : Name) (x : Arrival) (rest : List ℕ)
+    (g : Gate) where
+  -- of the part d that was cut
+  abbrev takesOf : (d : List ℕ) → Own → After
+  takesOf d s = partTaken h s (who .desk) (who .time) (x .used) (x .part) d
+
+  abbrev takes : Own → After
+  takes s = takesOf (partOfRest x rest) s
+
+  -- a desk's own things as the code lends them, for p
+  abbrev lentTo : Place → Own
+  lentTo p =
+      own p (deskPart (rowAt (who .desk)) finishedMost rows) (deskPart (markAt (who .desk)) marksEach marks)
+      (storeOf (who .desk) stores) out
+
+  abbrev backTo : Place → Answer → (row′ marks′ out′ : List ℕ) → Plan
+  backTo p r row′ marks′ out′ =
+      plan p r (deskBack (rowAt (who .desk)) finishedMost row′ rows) (deskBack (markAt (who .desk)) marksEach marks′ marks) stores out′
+
+  back-is : (p : Place) (r : Answer) (row′ marks′ out′ : List ℕ)
+      → backTo p r row′ marks′ out′ ≡ planOf (who .desk) rows marks stores (left (turn p r) row′ marks′ (storeOf (who .desk) stores) out′)
+  back-is p r row′ marks′ out′ =
+      rw (
+        widths (rowAt (who .desk)) finishedMost,
+        widths (markAt (who .desk)) marksEach,
+        splice-part (storeAt (who .desk)) storeSize stores,
+      )
+
+  lent-is : (p : Place) → lentTo p ≡ ownAt (who .desk) p rows marks stores out
+  lent-is p = rw (widths (rowAt (who .desk)) finishedMost, widths (markAt (who .desk)) marksEach)
+
+  module _ (f : g ≡ gateOf (desksOf marks) table (length rows) (length marks) (length stores) (who .desk) (length out)) where
+    -- over a place that is free or the sample's: a shut gate leaves it
+    laid-same : laid before (openIn before) ≡ before
+    unfolding laid openIn bare _⇒_⁏_
+    laid-same = go (before .used) refl
+      where
+        go : (b : Bool) → before .used ≡ b
+            → (b ⇒ (b ⇒ before ⁏ closed) ⁏ (b ⇒ before ⁏ closed) .used ⇒ (b ⇒ before ⁏ closed) ⁏ before) ≡ before
+        go true e = refl
+        go false e = refl
+
+    pub step-shut : (why : Refusal) → g ≡ Shut why → (r : Answer) → r ≡ says 0 (who .time) (O.Refused why)
+        → plan before r rows marks stores out ≡ laidPlan before (partPlanned table h (openIn before) rows marks stores out who x rest)
+    unfolding partPlanned
+    step-shut why k r e =
+        rw e
+        (ap (λ (q : Place). plan q (says 0 (who .time) (O.Refused why)) rows marks stores out) (sym laid-same)
+        ∙ ap (laidPlan before) (plan-shut table (openIn before) rows marks stores out who takes g f why k))
+
+    pub step-through : g ≡ Through → (p : Place) (r : Answer) (row′ marks′ out′ d : List ℕ) → d ≡ partOfRest x rest
+        → left (turn p r) row′ marks′ (storeOf (who .desk) stores) out′ ≡ laidIn before (takesOf d (lentTo (openIn before)))
+        → backTo p r row′ marks′ out′ ≡ laidPlan before (partPlanned table h (openIn before) rows marks stores out who x rest)
+    unfolding partPlanned
+    step-through k p r row′ marks′ out′ d cut e =
+        back-is p r row′ marks′ out′
+        ∙ ap (planOf (who .desk) rows marks stores) (e ∙ ap (λ (z : List ℕ). laidIn before (takesOf z (lentTo (openIn before)))) cut)
+        ∙ ap (λ (s : Own). laidPlan before (planOf (who .desk) rows marks stores (takes s))) (lent-is (openIn before))
+        ∙ ap (laidPlan before) (plan-through table (openIn before) rows marks stores out who takes g f k)
+
+    -- where no place is to be had
+    pub lost-shut : (why : Refusal) → g ≡ Shut why → (r : Answer) → r ≡ says 0 (who .time) (O.Refused why)
+        → plan (partPlanned table h closed rows marks stores out who x rest .place) r rows marks stores out
+        ≡ partPlanned table h closed rows marks stores out who x rest
+    unfolding partPlanned
+    lost-shut why k r e =
+        let q = plan-shut table closed rows marks stores out who takes g f why k in
+        rw e (ap (λ (z : Plan). plan (z .place) (says 0 (who .time) (O.Refused why)) rows marks stores out) (sym q) ∙ q)
+
+    pub lost-through : g ≡ Through → (r : Answer) (row′ marks′ out′ d : List ℕ) → d ≡ partOfRest x rest
+        → left (turn (takesOf d (lentTo closed) .own .place) r) row′ marks′ (storeOf (who .desk) stores) out′ ≡ takesOf d (lentTo closed)
+        → backTo (partPlanned table h closed rows marks stores out who x rest .place) r row′ marks′ out′
+        ≡ partPlanned table h closed rows marks stores out who x rest
+    unfolding partPlanned
+    lost-through k r row′ marks′ out′ d cut e =
+        let t = takes (lentTo closed) .own .place in
+        let e′ : left (turn t r) row′ marks′ (storeOf (who .desk) stores) out′ ≡ takes (lentTo closed) = rw cut at e in
+        let q : planOf (who .desk) rows marks stores (takes (lentTo closed)) ≡ settledPlan table closed rows marks stores out who takes =
+        ap (λ (s : Own). planOf (who .desk) rows marks stores (takes s)) (lent-is closed)
+        ∙ plan-through table closed rows marks stores out who takes g f k in
+        ap (λ (z : Plan). backTo (z .place) r row′ marks′ out′) (sym q)
+        ∙ back-is t r row′ marks′ out′ ∙ ap (planOf (who .desk) rows marks stores) e′ ∙ q
+
+-- ---- any other unit
+module _ (table : ℕ) (p : Place) (rows marks stores out : List ℕ) (who : Name) (r : Reading) (rest : List ℕ) (g : Gate)
+    (f : g ≡ gateOf (desksOf marks) table (length rows) (length marks) (length stores) (who .desk) (length out)) where
+  abbrev passes : Own → After
+  passes s = passed s (who .time) r rest
+
+  pub pass-shut : (why : Refusal) → g ≡ Shut why → (a : Answer) → a ≡ says 0 (who .time) (O.Refused why)
+      → plan p a rows marks stores out ≡ passPlanned table p rows marks stores out who r rest
+  unfolding passPlanned
+  pass-shut why k a e = rw e (plan-shut table p rows marks stores out who passes g f why k)
+
+  pub pass-through : g ≡ Through → (a : Answer) (row′ marks′ store′ out′ : List ℕ)
+      → left (turn p a) row′ marks′ store′ out′
+      ≡ passes (own p (deskPart (rowAt (who .desk)) finishedMost rows) (deskPart (markAt (who .desk)) marksEach marks)
+      (deskPart (storeAt (who .desk)) storeSize stores) out)
+      → plan p a (deskBack (rowAt (who .desk)) finishedMost row′ rows) (deskBack (markAt (who .desk)) marksEach marks′ marks)
+      (deskBack (storeAt (who .desk)) storeSize store′ stores) out′
+      ≡ passPlanned table p rows marks stores out who r rest
+  unfolding passPlanned
+  pass-through k a row′ marks′ store′ out′ e =
+      let w = widths in
+      let e′ : left (turn p a) row′ marks′ store′ out′ ≡ passes (ownAt (who .desk) p rows marks stores out) =
+      rw (w (rowAt (who .desk)) finishedMost, w (markAt (who .desk)) marksEach, w (storeAt (who .desk)) storeSize) at e in
+      rw (w (rowAt (who .desk)) finishedMost, w (markAt (who .desk)) marksEach, w (storeAt (who .desk)) storeSize)
+      (ap (planOf (who .desk) rows marks stores) e′ ∙ plan-through table p rows marks stores out who passes g f k)
+
+-- ---- give-up
+-- the place that it leaves is told by its answer
+given-place : (s : Own) (time : ℕ) → givenUp s time .own .place ≡ placeAfter (givenUp s time .answer) (s .place)
+unfolding givenUp _⇒_⁏_
+given-place s time = go (s .place .used) refl
+  where
+    go : (b : Bool) → s .place .used ≡ b → givenUp s time .own .place ≡ placeAfter (givenUp s time .answer) (s .place)
+    go true e = rw e
+    go false e = rw e
+
+module _ (table : ℕ) (p : Place) (rows marks : List ℕ) (who : Name) where
+  abbrev hers : Own
+  hers = own p (rowOf (who .desk) rows) (marksOf (who .desk) marks) [] []
+
+  abbrev n : ℕ
+  n = desksOf marks
+
+  held : yield p (G.Refused R.Desk) rows marks ≡ yieldOf (who .desk) rows marks (record { own = hers; answer = G.Refused R.Desk })
+  held = rw (splice-part (rowAt (who .desk)) finishedMost rows, splice-part (markAt (who .desk)) marksEach marks)
+
+  module _ (b : Bool) (f : b ≡ stranger n (who .desk)) where
+    pub yield-stranger : b ≡ true → yield p (G.Refused R.Desk) rows marks ≡ yielding table p rows marks who
+    unfolding yielding yielded
+    yield-stranger h = held ∙ ap (yieldOf (who .desk) rows marks) (yes _ _ (either _ _ (sym f ∙ h)) refl)
+
+    module _ (known : b ≡ false) (d : Bool) (k : d ≡ lacksThree n table (length rows) (length marks)) where
+      pub yield-lacking : d ≡ true → yield p (G.Refused R.Desk) rows marks ≡ yielding table p rows marks who
+      unfolding yielding yielded
+      yield-lacking h = held ∙ ap (yieldOf (who .desk) rows marks) (yes _ _ (other _ _ _ (sym f ∙ known) (sym k ∙ h)) refl)
+
+      pub yield-through : d ≡ false → (q : Place) (r : GivenUp) (row′ marks′ : List ℕ)
+          → freed q r row′ marks′ [] []
+          ≡ givenUp (own p (deskPart (rowAt (who .desk)) finishedMost rows) (deskPart (markAt (who .desk)) marksEach marks) [] [])
+          (who .time)
+          → yield (placeAfter r p) r (deskBack (rowAt (who .desk)) finishedMost row′ rows)
+          (deskBack (markAt (who .desk)) marksEach marks′ marks) ≡ yielding table p rows marks who
+      unfolding yielding yielded
+      yield-through enough q r row′ marks′ e =
+          let e′ : freed q r row′ marks′ [] [] ≡ givenUp hers (who .time) =
+          rw (widths (rowAt (who .desk)) finishedMost, widths (markAt (who .desk)) marksEach) at e in
+          let same : placeAfter r p ≡ q =
+          ap (λ (z : Given). placeAfter (z .answer) p) e′ ∙ sym (given-place hers (who .time))
+          ∙ ap (λ (z : Given). z .own .place) (sym e′) in
+          rw (same, widths (rowAt (who .desk)) finishedMost, widths (markAt (who .desk)) marksEach)
+          (ap (yieldOf (who .desk) rows marks) (e′ ∙ no _ _ (other _ _ _ (sym f ∙ known) (sym k ∙ enough)) refl))
+
+-- ---- lookup
+module _ (marks stores : List ℕ) (desk index : ℕ) (book : List ℕ) (b : Bool) (f : b ≡ stranger (desksOf marks) desk) where
+  pub look-stranger : b ≡ true → [] ≡ lookedUp marks stores desk index book
+  unfolding lookedUpAmong
+  look-stranger h = yes _ _ (either _ _ (sym f ∙ h)) refl
+
+  module _ (known : b ≡ false) where
+    pub look-marks : length marks < marksNeed (desksOf marks) → [] ≡ lookedUp marks stores desk index book
+    unfolding lookedUpAmong short
+    look-marks h = yes _ _ (other _ _ _ (sym f ∙ known) (either _ _ (lt _ _ h))) refl
+
+    module _ (enough : (length marks <? marksNeed (desksOf marks)) ≡ false) where
+      pub look-stores : length stores < storesNeed (desksOf marks) → [] ≡ lookedUp marks stores desk index book
+      unfolding lookedUpAmong short
+      look-stores h = yes _ _ (other _ _ _ (sym f ∙ known) (other _ _ _ enough (lt _ _ h))) refl
+
+      pub look-through : (length stores <? storesNeed (desksOf marks)) ≡ false → (r store : List ℕ) (newest : ℕ)
+          → store ≡ part (storeAt desk) storeSize stores → newest ≡ getD marks (markAt desk + 1) 0
+          → r ≡ shown book store newest index → r ≡ lookedUp marks stores desk index book
+      unfolding lookedUpAmong short
+      look-through h r store newest x y z =
+          let v : newestOf (marksOf desk marks) ≡ newest =
+          getD-take marksEach (drop (markAt desk) marks) 1 0 (omega arith) ∙ getD-drop (markAt desk) marks 1 0 ∙ sym y in
+          no _ _ (other _ _ _ (sym f ∙ known) (other _ _ _ enough h)) (z ∙ rw (x, v))

@@ -1,0 +1,14 @@
+-- `table::one` meets its contract. Assumes nothing.
+use mathlib.Core.Path.{refl, sym, ap}
+use Rattle.laws.specs.Rows.{yes, no, eq, ne}
+use Rattle.laws.specs.Table.{bit}
+use Rattle.table.proofs.one.Statement.{statement}
+use Rattle.table.proofs.one.Tie as tie
+
+pub one-spec : {M : Type 1} → statement M
+one-spec =
+    tie.close
+    (tie.spec
+    (λ c. ap bit (yes _ _ (c .before .if1 .taken) (sym (eq _ _ (c .if2 .taken)))))
+    (λ c. ap bit (yes _ _ (c .before .if1 .taken) (sym (ne _ _ (c .if2 .left)))))
+    (λ c. ap bit (no _ _ (c .if1 .left) refl)))

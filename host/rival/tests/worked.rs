@@ -1,0 +1,121 @@
+//! Cases worked by hand, and those where the rival takes another way than a plain relay.
+
+use rival::{Answer, Facts, Outcome, Rival};
+
+const CASE_1: &[u8] = b"\x01\x00\x0A\x80\x01\x5F\x90\x00\x02Hi";
+const PART_7: &[u8] = b"\x02\x00\x0B\x21\x00\x00\x64\x80\x00\x0EHi";
+
+fn fresh(n: usize) -> Rival {
+    Rival::set_up(n).expect("1 to 8 desks")
+}
+
+fn receive(relay: &mut Rival, desk: usize, time: u32, rest: &[u8]) -> Answer {
+    relay.receive(desk, time, rest, &mut [0; 1024])
+}
+
+/// Part `this` of three, of `data`, of a sample of six bytes.
+fn third(this: u8, data: &[u8]) -> Vec<u8> {
+    let len = 9 + data.len() as u8;
+    let head = [2, 0, len, 0x30 | this, 0, 0, 100, 128, 0, 6];
+    [&head, data].concat()
+}
+
+#[test]
+fn case_1_puts_the_sample_in_front_and_leaves_the_rest() {
+    let mut out = [0xEE; 1024];
+    let answer = fresh(1).receive(0, 1000, CASE_1, &mut out);
+    let facts = Facts {
+        time: 1000,
+        u: 0,
+        sidx: 128,
+        sdur: 90000,
+        string: 2,
+        sample: 2,
+    };
+    assert_eq!((answer.used, answer.next), (11, 91000));
+    assert_eq!(answer.outcome, Outcome::Whole(facts));
+    assert_eq!(&out[..3], b"Hi\xEE");
+}
+
+#[test]
+fn parts_join_in_any_order() {
+    let parts = [third(1, b"a"), third(2, b"bc"), third(3, b"def")];
+    for order in [
+        [0, 1, 2],
+        [0, 2, 1],
+        [1, 0, 2],
+        [1, 2, 0],
+        [2, 0, 1],
+        [2, 1, 0],
+    ] {
+        let mut relay = fresh(1);
+        let mut out = [0xEE; 1024];
+        let answers = order.map(|i| relay.receive(0, 7, &parts[i], &mut out));
+        let kept = [answers[0].outcome, answers[1].outcome];
+        assert_eq!(kept, [Outcome::Kept(2), Outcome::Kept(1)], "{order:?}");
+        assert!(
+            matches!(answers[2].outcome, Outcome::Joined(_)),
+            "{order:?}"
+        );
+        assert_eq!(&out[..7], b"abcdef\xEE", "{order:?}");
+        let late = receive(&mut relay, 0, 7, &parts[0]);
+        assert_eq!(late.outcome, Outcome::Refused(6));
+    }
+}
+
+#[test]
+fn time_0_is_not_finished_before_it_is() {
+    let mut relay = fresh(1);
+    assert!(matches!(
+        receive(&mut relay, 0, 0, CASE_1).outcome,
+        Outcome::Whole(_)
+    ));
+    assert_eq!(
+        receive(&mut relay, 0, 0, CASE_1).outcome,
+        Outcome::Refused(6)
+    );
+    for time in 1..=16 {
+        receive(&mut relay, 0, time, CASE_1);
+    }
+    assert!(matches!(
+        receive(&mut relay, 0, 0, CASE_1).outcome,
+        Outcome::Whole(_)
+    ));
+}
+
+/// The values held after descriptions of the given values, each of one byte.
+fn held_after(values: &[u8]) -> Vec<usize> {
+    let mut relay = fresh(1);
+    for sidx in values {
+        let answer = receive(&mut relay, 0, 0, &[5, 0, 4, *sidx, b'd']);
+        assert_eq!(answer.outcome, Outcome::Described);
+    }
+    (0..128)
+        .filter(|sidx| !relay.look(0, *sidx, &[]).is_empty())
+        .collect()
+}
+
+#[test]
+fn case_9_the_window_moves_by_at_most_64() {
+    assert_eq!(held_after(&[10, 74]), [74]);
+    assert_eq!(held_after(&[10, 75]), [10, 75]);
+    assert_eq!(held_after(&[10, 75, 73]), [10, 73]);
+    assert_eq!(held_after(&[127, 63, 126, 0]), [0, 126]);
+}
+
+#[test]
+fn case_10_the_shares() {
+    let mut relay = fresh(2);
+    let mut open = |desk, time| receive(&mut relay, desk, time, PART_7).outcome;
+    for time in 0..6 {
+        assert_eq!(open(0, time), Outcome::Kept(1));
+    }
+    assert_eq!(open(0, 6), Outcome::Refused(8));
+    for time in 0..2 {
+        assert_eq!(open(1, time), Outcome::Kept(1));
+    }
+    assert_eq!(open(1, 2), Outcome::Refused(9));
+    assert_eq!(relay.give_up(0, 3), Ok(()));
+    assert_eq!(relay.give_up(0, 3), Err(11));
+    assert_eq!(receive(&mut relay, 1, 2, PART_7).outcome, Outcome::Kept(1));
+}
