@@ -2,7 +2,7 @@
 use Prim.Native.Nat.{ℕ}
 use mathlib.Core.Path.{_≡_, refl, sym, ap, _∙_}
 use mathlib.Core.Bool.{true}
-use lib.ListN.{getD, replicate}
+use lib.ListN.{replicate}
 use Rattle.laws.specs.Rows.{_⇒_⁏_, _or_, _<?_, _=?_, yes}
 use Rattle.paper.specs.Limits.{placesMost, rowsMost, marksMost, storesMost}
 use Rattle.sample.specs.Place.{closed}
