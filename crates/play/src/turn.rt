@@ -95,11 +95,8 @@ fn join(
     );
     let head = s.head;
     let answer = s.answer;
-    let after = place_of(head, kinds, starts, lens, bytes);
-    Turn {
-        place: after,
-        answer,
-    }
+    let place = place_of(head, kinds, starts, lens, bytes);
+    Turn { place, answer }
 }
 
 // Any part: a sample of one part needs no place.
