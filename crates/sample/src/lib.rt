@@ -403,7 +403,8 @@ pub fn measure(
     ensures { λ r. ⌜ (r .string
         ≡ length (stringOf (piecesOf (whole p (now (kinds .entry)) (now (starts .entry)) (now (lens .entry)) (now (bytes .entry))))))
         × (r .sample
-        ≡ length (together (piecesOf (whole p (now (kinds .entry)) (now (starts .entry)) (now (lens .entry)) (now (bytes .entry)))))) ⌝ }
+        ≡ length (together
+        (piecesOf (whole p (now (kinds .entry)) (now (starts .entry)) (now (lens .entry)) (now (bytes .entry)))))) ⌝ }
 {
     let n = octets::least(p.total, PARTS_MOST);
     let kinds = *kinds;
