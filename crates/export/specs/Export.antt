@@ -1,6 +1,8 @@
 -- Answers as numbers, for callers in other languages: a lent row gets the values one after the other. Assumes nothing.
 use Prim.Native.Nat.{ℕ}
+use mathlib.Core.Path.{_≡_}
 use mathlib.Core.List.{List, [], _∷_}
+use denote.Ref.{now}
 use lib.Seq.{sets}
 use Rattle.laws.specs.Rows.{_⇒_⁏_}
 use Rattle.paper.specs.Words.{kindOf, valuesOf}
@@ -14,7 +16,8 @@ use Rattle.writer.specs.declared.Written.{Written}
 use Rattle.writer.specs.Write.{writtenNumber, writtenValues}
 use Rattle.writer.specs.Write as Write
 use Rattle.desk.specs.Desk.{givenUpNumber}
-use Rattle.memory.specs.Relay.{Tables, Prepared, startedNumber, Done, Released, improper}
+use Rattle.memory.specs.Relay.{Tables, Prepared, startedNumber, setUp, Done, receivedAt, Released, givenUpAt, improper}
+use Rattle.memory.specs.Lent.{Slice, Lent}
 
 -- ---- the numbers of each answer
 -- used, next, the outcome's kind, and its values
@@ -76,6 +79,19 @@ rowed used s out row = record { used = used; tables = s; out = out; row = row }
 abbrev pub doneAs : Done → (row : List ℕ) → Rowed
 doneAs d row = rowed (d .answer .used) (d .tables) (d .out) (sets row 0 (answerRow (d .answer)))
 
+-- ---- the calls of the relay, with the answer as numbers
+abbrev pub SetsUpAs : (n : ℕ) → Lent → (r : ℕ) → Type 0
+SetsUpAs n l r = numbered (l .exit) r ≡ startedAs (setUp n (l .entry))
+
+abbrev pub ReceivesAs : Lent → Name → (rest out row : Slice ℕ) → (used : ℕ) → Type 0
+ReceivesAs l who rest out row used =
+    rowed used (l .exit) (now (out .exit)) (now (row .exit))
+    ≡ doneAs (receivedAt (l .entry) who (now (rest .entry)) (now (out .entry))) (now (row .entry))
+
+abbrev pub GivesUpAs : (List ℕ → Lent) → Name → (r : ℕ) → Type 0
+GivesUpAs l who r = (stores : List ℕ) → numbered (l stores .exit) r ≡ releasedAs (givenUpAt (l stores .entry) who)
+
+-- ---- the writer
 pub record Wrote : Type 0 where
   pub out : List ℕ
   pub row : List ℕ

@@ -16,20 +16,21 @@ use sample::Place;
 use style::Checked;
 use writer::Written;
 ghost use mathlib.Core.Path.{_≡_};
-ghost use mathlib.Core.List.{List, [], _∷_};
+ghost use mathlib.Core.List.{[], _∷_};
 ghost use Prim.Native.Nat.{ℕ, _*_, _≤_};
 ghost use lib.ListN.{length, drop, set};
 ghost use lib.Seq.{sets};
 ghost use Rattle.paper.specs.Limits.{sampleMost, storeSize, places, rowsNeed, marksNeed, storesNeed};
 ghost use Rattle.paper.specs.Words.{factsOf, valuesOf};
 ghost use Rattle.desk.specs.Desk.{givenUpNumber};
-ghost use Rattle.memory.specs.Relay.{tables, startedNumber, setUp, receivedAt, givenUpAt, lookedUp};
+ghost use Rattle.memory.specs.Relay.{startedNumber, lookedUp};
+ghost use Rattle.memory.specs.Lent.{lent, lentThree};
 ghost use Rattle.style.specs.Book.{checkOf};
 ghost use Rattle.boxes.specs.Step.{stepOf};
 ghost use Rattle.text.specs.Unicode.{character};
 ghost use Rattle.writer.specs.Write.{caption, written, described};
 ghost use Rattle.export.specs.Export.{answerRow, checkedRow, writtenRow, steppedRow, placeSize, rowMost, needed};
-ghost use Rattle.export.specs.Export.{nameOf, numbered, startedAs, releasedAs, rowed, doneAs, wrote, writtenAs};
+ghost use Rattle.export.specs.Export.{nameOf, SetsUpAs, ReceivesAs, GivesUpAs, wrote, writtenAs};
 
 // Stores a number in a row; past the end, nothing.
 fn put_at(row: &mut [u64], i: usize, v: usize)
@@ -219,8 +220,7 @@ pub extern "C" fn spindlefig_set_up(
     marks: &mut [u32],
     stores: &mut [u8],
 ) -> usize
-    ensures { λ r. ⌜ numbered (tables (now (places .exit)) (now (rows .exit)) (now (marks .exit)) (now (stores .exit))) r
-        ≡ startedAs (setUp n (tables (now (places .entry)) (now (rows .entry)) (now (marks .entry)) (now (stores .entry)))) ⌝ }
+    ensures { λ r. ⌜ SetsUpAs n (lent places rows marks stores) r ⌝ }
 {
     let s = relay::set_up(n, places, rows, marks, stores);
     started_number(s)
@@ -239,10 +239,7 @@ pub extern "C" fn spindlefig_receive(
     out: &mut [u8],
     row: &mut [u64],
 ) -> usize
-    ensures { λ r. ⌜ rowed r (tables (now (places .exit)) (now (rows .exit)) (now (marks .exit)) (now (stores .exit)))
-        (now (out .exit)) (now (row .exit))
-        ≡ doneAs (receivedAt (tables (now (places .entry)) (now (rows .entry)) (now (marks .entry)) (now (stores .entry)))
-        (nameOf desk time) (now (rest .entry)) (now (out .entry))) (now (row .entry)) ⌝ }
+    ensures { λ r. ⌜ ReceivesAs (lent places rows marks stores) (nameOf desk time) rest out row r ⌝ }
 {
     let who = name_of(desk, time);
     let a = relay::receive(places, rows, marks, stores, who, rest, out);
@@ -258,10 +255,7 @@ pub extern "C" fn spindlefig_give_up(
     desk: usize,
     time: u32,
 ) -> usize
-    ensures { λ r. ⌜ ((stores : List ℕ)
-        → numbered (tables (now (places .exit)) (now (rows .exit)) (now (marks .exit)) stores) r
-        ≡ releasedAs (givenUpAt (tables (now (places .entry)) (now (rows .entry)) (now (marks .entry)) stores)
-        (nameOf desk time))) ⌝ }
+    ensures { λ r. ⌜ GivesUpAs (lentThree places rows marks) (nameOf desk time) r ⌝ }
 {
     let who = name_of(desk, time);
     let g = relay::give_up(places, rows, marks, who);

@@ -7,10 +7,8 @@ use paper::Name;
 use paper::limits::PLACES_MOST;
 use sample::Place;
 ghost use mathlib.Core.Path.{_≡_};
-ghost use mathlib.Core.List.{List};
-ghost use Prim.Native.Nat.{ℕ};
-ghost use Rattle.memory.specs.Relay.{tables, prepared, setUp, done, receivedAt, released, givenUpAt};
-ghost use Rattle.held.specs.Held.{begun, called, yielded};
+ghost use Rattle.memory.specs.Lent.{SetsUp, Receives, GivesUp};
+ghost use Rattle.held.specs.Held.{begun, called, yielded, kept, keptThree};
 
 pub struct Begun {
     pub places: [Place; PLACES_MOST],
@@ -52,8 +50,7 @@ pub fn set_up(
     marks: &mut [u32],
     stores: &mut [u8],
 ) -> Begun
-    ensures { λ r. ⌜ prepared (tables (r .places) (now (rows .exit)) (now (marks .exit)) (now (stores .exit))) (r .answer)
-        ≡ setUp n (tables places (now (rows .entry)) (now (marks .entry)) (now (stores .entry))) ⌝ }
+    ensures { λ r. ⌜ SetsUp n (kept places (r .places) rows marks stores) (r .answer) ⌝ }
 {
     let mut t = places;
     let answer = relay::set_up(n, &mut t, rows, marks, stores);
@@ -69,10 +66,7 @@ pub fn receive(
     rest: &[u8],
     out: &mut [u8],
 ) -> Called
-    ensures { λ r. ⌜ done (tables (r .places) (now (rows .exit)) (now (marks .exit)) (now (stores .exit)))
-        (now (out .exit)) (r .answer)
-        ≡ receivedAt (tables places (now (rows .entry)) (now (marks .entry)) (now (stores .entry))) who
-        (now (rest .entry)) (now (out .entry)) ⌝ }
+    ensures { λ r. ⌜ Receives (kept places (r .places) rows marks stores) who rest out (r .answer) ⌝ }
 {
     let mut t = places;
     let answer = relay::receive(&mut t, rows, marks, stores, who, rest, out);
@@ -85,9 +79,7 @@ pub fn give_up(
     marks: &mut [u32],
     who: Name,
 ) -> Yielded
-    ensures { λ r. ⌜ ((stores : List ℕ)
-        → released (tables (r .places) (now (rows .exit)) (now (marks .exit)) stores) (r .answer)
-        ≡ givenUpAt (tables places (now (rows .entry)) (now (marks .entry)) stores) who) ⌝ }
+    ensures { λ r. ⌜ GivesUp (keptThree places (r .places) rows marks) who (r .answer) ⌝ }
 {
     let mut t = places;
     let answer = relay::give_up(&mut t, rows, marks, who);

@@ -1,3 +1,4 @@
 pub mod Table
 pub mod Relay
 pub mod Back
+pub mod Lent

@@ -10,14 +10,14 @@ use settle::Arrival;
 use unit::Reading;
 ghost use mathlib.Core.Path.{_≡_};
 ghost use mathlib.Core.Bool.{true, false};
-ghost use mathlib.Core.List.{List};
-ghost use Prim.Native.Nat.{ℕ, _<_};
+ghost use Prim.Native.Nat.{_<_};
 ghost use lib.ListN.{length, getD};
 ghost use Rattle.sample.specs.Place.{closed};
 ghost use Rattle.unit.specs.Layout.{readOf};
 ghost use Rattle.desk.specs.Desk.{isPart};
-ghost use Rattle.memory.specs.Relay.{tables, prepared, setUp, done, receivedAt, released, givenUpAt, lookedUp};
-ghost use Rattle.steps.specs.Back.{joinedAt};
+ghost use Rattle.memory.specs.Relay.{lookedUp};
+ghost use Rattle.memory.specs.Lent.{lent, lentThree, SetsUp, Receives, GivesUp};
+ghost use Rattle.steps.specs.Back.{JoinsAt};
 
 // Makes what n desks need fresh, or refuses and writes nothing.
 pub fn set_up(
@@ -27,8 +27,7 @@ pub fn set_up(
     marks: &mut [u32],
     stores: &mut [u8],
 ) -> Started
-    ensures { λ r. ⌜ prepared (tables (now (places .exit)) (now (rows .exit)) (now (marks .exit)) (now (stores .exit))) r
-        ≡ setUp n (tables (now (places .entry)) (now (rows .entry)) (now (marks .entry)) (now (stores .entry))) ⌝ }
+    ensures { λ r. ⌜ SetsUp n (lent places rows marks stores) r ⌝ }
 {
     let len = table::len(places);
     let r = rows.len();
@@ -56,10 +55,7 @@ fn join_in(
     out: &mut [u8],
 ) -> Answer
     requires { ⌜ (len ≡ length (now places)) × ((i < len) × (getD (now places) i closed .used ≡ false → 1 < x .part .total)) ⌝ }
-    ensures { λ r. ⌜ ((stores : List ℕ) → length stores ≡ «store_len»
-        → done (tables (now (places .exit)) (now (rows .exit)) (now (marks .exit)) stores) (now (out .exit)) r
-        ≡ joinedAt i h (tables (now (places .entry)) (now (rows .entry)) (now (marks .entry)) stores) who x
-        (now (rest .entry)) (now (out .entry))) ⌝ }
+    ensures { λ r. ⌜ JoinsAt i h (lentThree places rows marks) «store_len» who x rest out r ⌝ }
 {
     let q = table::head(places, i);
     let p = &mut places[i];
@@ -99,10 +95,7 @@ fn join_at(
     out: &mut [u8],
 ) -> Answer
     requires { ⌜ (len ≡ length (now places)) × (i < len → getD (now places) i closed .used ≡ false → 1 < x .part .total) ⌝ }
-    ensures { λ r. ⌜ ((stores : List ℕ) → length stores ≡ «store_len»
-        → done (tables (now (places .exit)) (now (rows .exit)) (now (marks .exit)) stores) (now (out .exit)) r
-        ≡ joinedAt i h (tables (now (places .entry)) (now (rows .entry)) (now (marks .entry)) stores) who x
-        (now (rest .entry)) (now (out .entry))) ⌝ }
+    ensures { λ r. ⌜ JoinsAt i h (lentThree places rows marks) «store_len» who x rest out r ⌝ }
 {
     if i < len {
         join_in(places, i, len, h, rows, marks, store_len, who, x, rest, out)
@@ -123,10 +116,7 @@ fn join(
     out: &mut [u8],
 ) -> Answer
     requires { ⌜ (r ≡ readOf (now rest)) × (isPart (r .unit) ≡ true) ⌝ }
-    ensures { λ a. ⌜ done (tables (now (places .exit)) (now (rows .exit)) (now (marks .exit)) (now (stores .exit)))
-        (now (out .exit)) a
-        ≡ receivedAt (tables (now (places .entry)) (now (rows .entry)) (now (marks .entry)) (now (stores .entry))) who
-        (now (rest .entry)) (now (out .entry)) ⌝ }
+    ensures { λ a. ⌜ Receives (lent places rows marks stores) who rest out a ⌝ }
 {
     let len = table::len(places);
     let m = steps::reach(marks, who, len);
@@ -155,10 +145,7 @@ fn pass(
     out: &mut [u8],
 ) -> Answer
     requires { ⌜ (r ≡ readOf (now rest)) × (isPart (r .unit) ≡ false) ⌝ }
-    ensures { λ a. ⌜ done (tables (now (places .exit)) (now (rows .exit)) (now (marks .exit)) (now (stores .exit)))
-        (now (out .exit)) a
-        ≡ receivedAt (tables (now (places .entry)) (now (rows .entry)) (now (marks .entry)) (now (stores .entry))) who
-        (now (rest .entry)) (now (out .entry)) ⌝ }
+    ensures { λ a. ⌜ Receives (lent places rows marks stores) who rest out a ⌝ }
 {
     let len = table::len(places);
     let m = steps::reach_for(marks, who, len, r);
@@ -176,10 +163,7 @@ pub fn receive(
     rest: &[u8],
     out: &mut [u8],
 ) -> Answer
-    ensures { λ a. ⌜ done (tables (now (places .exit)) (now (rows .exit)) (now (marks .exit)) (now (stores .exit)))
-        (now (out .exit)) a
-        ≡ receivedAt (tables (now (places .entry)) (now (rows .entry)) (now (marks .entry)) (now (stores .entry))) who
-        (now (rest .entry)) (now (out .entry)) ⌝ }
+    ensures { λ a. ⌜ Receives (lent places rows marks stores) who rest out a ⌝ }
 {
     let r = unit::read(rest);
     if settle::is_part(r) {
@@ -191,9 +175,7 @@ pub fn receive(
 
 // Gives a desk's open sample up: its place is freed and its time marked finished.
 pub fn give_up(places: &mut [Place], rows: &mut [u32], marks: &mut [u32], who: Name) -> GivenUp
-    ensures { λ r. ⌜ ((stores : List ℕ)
-        → released (tables (now (places .exit)) (now (rows .exit)) (now (marks .exit)) stores) r
-        ≡ givenUpAt (tables (now (places .entry)) (now (rows .entry)) (now (marks .entry)) stores) who) ⌝ }
+    ensures { λ r. ⌜ GivesUp (lentThree places rows marks) who r ⌝ }
 {
     let len = table::len(places);
     let m = steps::reach(marks, who, len);

@@ -5,6 +5,7 @@ use native.Mathlib.Omega.{arith}
 use mathlib.Core.Path.{_≡_, refl, sym, ap, subst, _∙_}
 use mathlib.Core.Bool.{Bool, true, false, not, true≢false}
 use mathlib.Core.List.{List, [], _++_}
+use denote.Ref.{now}
 use lib.ListN.{length, getD, set, take, drop, length-take, List·getD-eq-default, take-append-drop}
 use lib.Seq.{set-out, set-getD, getD-take, length-take-le, set-append-left}
 use Rattle.laws.specs.Rows.{_⇒_⁏_, _or_, _and_, _<?_, each, below, yes, no, lt, ge, lt-of, ge-of, and-of, or-none}
@@ -42,6 +43,7 @@ use Rattle.memory.specs.Table.{vacant, mine, isAt}
 use Rattle.memory.specs.Relay.{Tables, tables, desksOf, placesOf, rowOf, marksOf, storeOf, commonUse, sharesOf, openAt, ownOf, standsAt, placed, putBack}
 use Rattle.memory.specs.Relay.{stranger, lacking, lacksThree, Done, done, ordered, settled, receivedAmong, receivedAt, Released, released, yielded, returned, givenUpAmong, givenUpAt}
 use Rattle.memory.specs.Back.{placed-open, put-same}
+use Rattle.memory.specs.Lent.{Slice, Lent}
 use Rattle.steps.specs.Plan.{reachOf, reachFor, askedOf, beyondOf, commonSeen, sharesSeen, Bounded, spotOf, gated, Plan, plan, planOf, ownAt, partPlanned, laidPlan, passPlanned}
 use Rattle.steps.specs.Plan.{Yield, yield, yielding, placeAfter, freedAt}
 use Rattle.steps.specs.Tests.{proper, three-long, all-long}
@@ -60,6 +62,12 @@ keptDone i s x =
 
 abbrev pub joinedAt : (i : ℕ) → Shares → Tables → Name → Arrival → (rest out : List ℕ) → Done
 joinedAt i h s who x rest out = keptDone i s (keptPlan i h s who x rest out)
+
+-- what a call with the part leaves and answers, with stores of a length that was told, whatever they hold
+abbrev pub JoinsAt : (i : ℕ) → Shares → (List ℕ → Lent) → (storeLen : ℕ) → Name → Arrival → (rest out : Slice ℕ) → Answer → Type 0
+JoinsAt i h l storeLen who x rest out r =
+    (stores : List ℕ) → length stores ≡ storeLen
+    → done (l stores .exit) (now (out .exit)) r ≡ joinedAt i h (l stores .entry) who x (now (rest .entry)) (now (out .entry))
 
 -- past the end there is no sample, and none is kept
 pub open-none : openIn closed ≡ closed
