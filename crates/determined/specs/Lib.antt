@@ -1,4 +1,5 @@
 pub mod Leaves
+pub mod Desk
 pub mod Steps
 pub mod Relay
 pub mod Faces

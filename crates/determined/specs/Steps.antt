@@ -1,5 +1,5 @@
--- Determined, one line for each public function: one desk, the lent table, and what decides a call of the relay. A function that is not
--- lent some of the memory says the same of all that it could be: of every store, and of every place that is used or not as it was told.
+-- Determined, one line for each public function: the lent table, and what decides a call of the relay. A function that is not lent some
+-- of the memory says the same of all that it could be: of every store, and of every place that is used or not as it was told.
 -- Assumes nothing.
 use Prim.Native.Nat.{ℕ}
 use mathlib.Core.Path.{_≡_, refl}
@@ -8,7 +8,7 @@ use mathlib.Core.List.{List, []}
 use lib.ListN.{length, getD, set, take, replicate, length-replicate}
 use lib.Seq.{sets}
 use Rattle.laws.specs.Exactly.{Determines, determined, equation, determined-by-three}
-use Rattle.laws.specs.Rows.{_⇒_⁏_, _<?_}
+use Rattle.laws.specs.Rows.{_<?_}
 use Rattle.laws.specs.Table.{seek, count}
 use Rattle.paper.specs.Limits.{places, rowsNeed, storesNeed}
 use Rattle.paper.specs.declared.Answer.{Answer}
@@ -20,82 +20,20 @@ use Rattle.sample.specs.Head.{headOf}
 use Rattle.sample.specs.Place.{bare, closed}
 use Rattle.desk.specs.declared.Shares.{Shares}
 use Rattle.desk.specs.declared.GivenUp.{GivenUp}
-use Rattle.desk.specs.Desk.{After, Given, own, turn, left, isPart, partTaken, freed, givenUp}
-use Rattle.settle.specs.declared.Arrival.{Arrival}
-use Rattle.settle.specs.declared.Settled.{Settled}
-use Rattle.settle.specs.Settled.{openIn, laidIn, opening, hasPlace, arrivalOf, passed}
+use Rattle.asks.specs.declared.Arrival.{Arrival}
+use Rattle.asks.specs.Settled.{openIn}
 use Rattle.memory.specs.declared.Started.{Started}
-use Rattle.memory.specs.Table.{vacant, mine, isAt}
+use Rattle.memory.specs.Table.{vacant, isAt}
 use Rattle.memory.specs.Relay.{desksOf, improper, stranger, lacks, lacksThree, lookedUp}
 use Rattle.table.specs.declared.Seen.{Seen}
-use Rattle.table.specs.Table.{seen, stored, cleared, headed}
-use Rattle.steps.specs.declared.tests.Gate.{Gate}
-use Rattle.steps.specs.Plan.{reachOf, reachFor, askedOf, beyondOf, sharesSeen, spotOf, gateOf, freedAt, fitting, startedOf, madeMarks}
+use Rattle.table.specs.Table.{counts, holds, seen, stored, cleared, headed}
+use Rattle.gate.specs.declared.Gate.{Gate}
+use Rattle.looks.specs.Looks.{reachOf, reachFor, askedOf, beyondOf, sharesSeen, spotOf, freedAt}
+use Rattle.gate.specs.Gate.{gateOf}
+use Rattle.fresh.specs.Fresh.{fitting, startedOf, madeMarks}
 use Rattle.steps.specs.Plan.{Plan, plan, partPlanned, laidPlan, passPlanned, Yield, yield, yielding, placeAfter}
-use Rattle.determined.specs.Leaves.{Arrays, placeOf, arraysOf}
-
--- a place that is used or not, as told
-abbrev any : Bool → Place
-any is-open = bare is-open 0 0 0 0
-
--- the numbers of the sample after the call and the answer, with its arrays
-abbrev Sample : Type 0
-Sample = Settled × Arrays
-
-abbrev sample : Place → Answer → Sample
-sample p a = (record { head = headOf p; answer = a }, arraysOf p)
-
--- ---- settle
-pub settle-take-part : (h : Shares) (desk : ℕ) (q : Head) (l : Arrays) (row marks : List ℕ) (time : ℕ) (x : Arrival) (d out : List ℕ)
-    → Determines (λ (r : Sample × List ℕ × List ℕ × List ℕ). (store : List ℕ)
-    → left (turn (placeOf (r .0 .0 .head) (r .0 .1)) (r .0 .0 .answer)) (r .1) (r .2) store (r .3)
-    ≡ laidIn (placeOf q l) (partTaken h (own (openIn (placeOf q l)) row marks store out) desk time (x .used) (x .part) d))
-settle-take-part h desk q l row marks time x d out =
-    λ r s a b.
-    determined (λ (r : Sample × List ℕ × List ℕ × List ℕ).
-    left (turn (placeOf (r .0 .0 .head) (r .0 .1)) (r .0 .0 .answer)) (r .1) (r .2) [] (r .3))
-    (λ (z : After). (sample (z .own .place) (z .answer), z .own .row, z .own .marks, z .own .out)) (λ r. refl)
-    (laidIn (placeOf q l) (partTaken h (own (openIn (placeOf q l)) row marks [] out) desk time (x .used) (x .part) d)) r s (a []) (b [])
-
-pub settle-lose : (h : Shares) (desk : ℕ) (row marks : List ℕ) (time : ℕ) (x : Arrival) (d out : List ℕ)
-    → Determines (λ (r : Answer × List ℕ × List ℕ × List ℕ). (store : List ℕ)
-    → left (turn (opening h row marks store out desk time x d .own .place) (r .0)) (r .1) (r .2) store (r .3)
-    ≡ opening h row marks store out desk time x d)
-settle-lose h desk row marks time x d out =
-    λ r s a b.
-    determined (λ (r : Answer × List ℕ × List ℕ × List ℕ).
-    left (turn (opening h row marks [] out desk time x d .own .place) (r .0)) (r .1) (r .2) [] (r .3))
-    (λ (z : After). (z .answer, z .own .row, z .own .marks, z .own .out)) (λ r. refl)
-    (opening h row marks [] out desk time x d) r s (a []) (b [])
-
-pub settle-is-part : (r : Reading) → Determines (λ (b : Bool). b ≡ isPart (r .unit))
-settle-is-part r = equation (isPart (r .unit))
-
-pub settle-has-place : (r : Reading) → Determines (λ (b : Bool). b ≡ hasPlace (r .unit))
-settle-has-place r = equation (hasPlace (r .unit))
-
-pub settle-arrived : (r : Reading) → Determines (λ (x : Arrival). x ≡ arrivalOf r)
-settle-arrived r = equation (arrivalOf r)
-
-pub settle-pass : (is-open : Bool) (row marks store : List ℕ) (time : ℕ) (x : Reading) (rest out : List ℕ)
-    → Determines (λ (r : Answer × List ℕ × List ℕ × List ℕ × List ℕ). (p : Place) → p .used ≡ is-open
-    → left (turn p (r .0)) (r .1) (r .2) (r .3) (r .4) ≡ passed (own p row marks store out) time x rest)
-unfolding bare
-settle-pass is-open row marks store time x rest out =
-    λ r s a b.
-    determined (λ (r : Answer × List ℕ × List ℕ × List ℕ × List ℕ). left (turn (any is-open) (r .0)) (r .1) (r .2) (r .3) (r .4))
-    (λ (z : After). (z .answer, z .own .row, z .own .marks, z .own .store, z .own .out)) (λ r. refl)
-    (passed (own (any is-open) row marks store out) time x rest) r s (a (any is-open) refl) (b (any is-open) refl)
-
-pub settle-give-up : (is-open : Bool) (row marks : List ℕ) (time : ℕ)
-    → Determines (λ (r : GivenUp × List ℕ × List ℕ). (p : Place) (store out : List ℕ) → p .used ≡ is-open
-    → freed (is-open ⇒ closed ⁏ p) (r .0) (r .1) (r .2) store out ≡ givenUp (own p row marks store out) time)
-unfolding bare
-settle-give-up is-open row marks time =
-    λ r s a b.
-    determined (λ (r : GivenUp × List ℕ × List ℕ). freed (is-open ⇒ closed ⁏ any is-open) (r .0) (r .1) (r .2) [] [])
-    (λ (z : Given). (z .answer, z .own .row, z .own .marks)) (λ r. refl)
-    (givenUp (own (any is-open) row marks [] []) time) r s (a (any is-open) [] [] refl) (b (any is-open) [] [] refl)
+use Rattle.determined.specs.Leaves.{Arrays, placeOf}
+use Rattle.determined.specs.Desk.{any, Sample, sample}
 
 -- ---- table
 pub table-len : (t : List Place) → Determines (λ (r : ℕ). r ≡ length t)
@@ -107,8 +45,12 @@ table-find t m who = equation (seek (isAt (who .desk) (who .time)) (take m t))
 pub table-lowest : (t : List Place) (m : ℕ) → Determines (λ (r : ℕ). r ≡ seek vacant (take m t))
 table-lowest t m = equation (seek vacant (take m t))
 
-pub table-count : (t : List Place) (m : ℕ) (who : Name) → Determines (λ (r : ℕ). r ≡ count (mine (who .desk)) (take m t))
-table-count t m who = equation (count (mine (who .desk)) (take m t))
+pub table-count : (t : List Place) (m : ℕ) (who : Name) (timed : Bool) → Determines (λ (r : ℕ). r ≡ count (counts timed who) (take m t))
+table-count t m who timed = equation (count (counts timed who) (take m t))
+
+pub table-is-open : (t : List Place) (m : ℕ) (who : Name)
+    → Determines (λ (r : Bool). r ≡ holds (isAt (who .desk) (who .time)) (take m t))
+table-is-open t m who = equation (holds (isAt (who .desk) (who .time)) (take m t))
 
 pub table-scan : (t : List Place) (m : ℕ) → Determines (λ (r : Seen). r ≡ seen (take m t))
 table-scan t m = equation (seen (take m t))
@@ -125,64 +67,67 @@ table-head t i = equation (headOf (getD t i closed))
 pub table-set-head : (t : List Place) (i : ℕ) (h : Head) → Determines (λ (l : List Place). l ≡ set t i (headed h (getD t i closed)))
 table-set-head t i h = equation (set t i (headed h (getD t i closed)))
 
--- ---- steps: refusals 1 and 2
-pub steps-desks-of : (marks : List ℕ) → Determines (λ (r : ℕ). r ≡ desksOf marks)
-steps-desks-of marks = equation (desksOf marks)
+-- ---- gate
+pub gate-desks-of : (marks : List ℕ) → Determines (λ (r : ℕ). r ≡ desksOf marks)
+gate-desks-of marks = equation (desksOf marks)
 
-pub steps-is-improper : (n : ℕ) → Determines (λ (r : Bool). r ≡ improper n)
-steps-is-improper n = equation (improper n)
+pub gate-is-improper : (n : ℕ) → Determines (λ (r : Bool). r ≡ improper n)
+gate-is-improper n = equation (improper n)
 
-pub steps-is-stranger : (n desk : ℕ) → Determines (λ (r : Bool). r ≡ stranger n desk)
-steps-is-stranger n desk = equation (stranger n desk)
+pub gate-is-stranger : (n desk : ℕ) → Determines (λ (r : Bool). r ≡ stranger n desk)
+gate-is-stranger n desk = equation (stranger n desk)
 
-pub steps-lacks-three : (n table rows marks : ℕ) → Determines (λ (r : Bool). r ≡ lacksThree n table rows marks)
-steps-lacks-three n table rows marks = equation (lacksThree n table rows marks)
+pub gate-lacks-three : (n table rows marks : ℕ) → Determines (λ (r : Bool). r ≡ lacksThree n table rows marks)
+gate-lacks-three n table rows marks = equation (lacksThree n table rows marks)
 
-pub steps-is-lacking : (n table rows marks stores : ℕ) → Determines (λ (r : Bool). r ≡ lacks n table rows marks stores)
-steps-is-lacking n table rows marks stores = equation (lacks n table rows marks stores)
+pub gate-is-lacking : (n table rows marks stores : ℕ) → Determines (λ (r : Bool). r ≡ lacks n table rows marks stores)
+gate-is-lacking n table rows marks stores = equation (lacks n table rows marks stores)
 
-pub steps-gate-of : (n table : ℕ) (rows marks : List ℕ) (stores desk : ℕ) (out : List ℕ)
+pub gate-gate-of : (n table : ℕ) (rows marks : List ℕ) (stores desk : ℕ) (out : List ℕ)
     → Determines (λ (r : Gate). r ≡ gateOf n table (length rows) (length marks) stores desk (length out))
-steps-gate-of n table rows marks stores desk out = equation (gateOf n table (length rows) (length marks) stores desk (length out))
+gate-gate-of n table rows marks stores desk out = equation (gateOf n table (length rows) (length marks) stores desk (length out))
 
--- ---- steps: set-up
-pub steps-fit : (n table rows marks stores : ℕ) → Determines (λ (r : ℕ). r ≡ fitting n table rows marks stores)
-steps-fit n table rows marks stores = equation (fitting n table rows marks stores)
+-- ---- fresh
+pub fresh-fit : (n table rows marks stores : ℕ) → Determines (λ (r : ℕ). r ≡ fitting n table rows marks stores)
+fresh-fit n table rows marks stores = equation (fitting n table rows marks stores)
 
-pub steps-places-of : (n : ℕ) → Determines (λ (r : ℕ). r ≡ places n)
-steps-places-of n = equation (places n)
+pub fresh-places-of : (n : ℕ) → Determines (λ (r : ℕ). r ≡ places n)
+fresh-places-of n = equation (places n)
 
-pub steps-make-fresh : (rows marks stores : List ℕ) (n : ℕ)
+pub fresh-make-fresh : (rows marks stores : List ℕ) (n : ℕ)
     → Determines (λ (l : List ℕ × List ℕ × List ℕ).
     (l .0 ≡ sets rows 0 (replicate (rowsNeed n) 0)) × (l .1 ≡ madeMarks n marks) × (l .2 ≡ sets stores 0 (replicate (storesNeed n) 0)))
-steps-make-fresh rows marks stores n =
+fresh-make-fresh rows marks stores n =
     determined-by-three (λ l. l .0) (λ l. l .1) (λ l. l .2) (λ a b c. (a, b, c)) (λ l. refl) (sets rows 0 (replicate (rowsNeed n) 0))
     (madeMarks n marks) (sets stores 0 (replicate (storesNeed n) 0))
 
-pub steps-answer-of : (n : ℕ) → Determines (λ (r : Started). r ≡ startedOf n)
-steps-answer-of n = equation (startedOf n)
+pub fresh-answer-of : (n : ℕ) → Determines (λ (r : Started). r ≡ startedOf n)
+fresh-answer-of n = equation (startedOf n)
 
--- ---- steps: what is looked at, and the shares
-pub steps-reach : (marks : List ℕ) (len : ℕ) → Determines (λ (r : ℕ). r ≡ reachOf (desksOf marks) len)
-steps-reach marks len = equation (reachOf (desksOf marks) len)
+-- ---- looks
+pub looks-reach : (marks : List ℕ) (len : ℕ) → Determines (λ (r : ℕ). r ≡ reachOf (desksOf marks) len)
+looks-reach marks len = equation (reachOf (desksOf marks) len)
 
-pub steps-reach-for : (marks : List ℕ) (len : ℕ) (x : Reading) → Determines (λ (r : ℕ). r ≡ reachFor (desksOf marks) len (x .unit))
-steps-reach-for marks len x = equation (reachFor (desksOf marks) len (x .unit))
+pub looks-reach-for : (marks : List ℕ) (len : ℕ) (x : Reading) → Determines (λ (r : ℕ). r ≡ reachFor (desksOf marks) len (x .unit))
+looks-reach-for marks len x = equation (reachFor (desksOf marks) len (x .unit))
 
-pub steps-asked : (at m : ℕ) → Determines (λ (r : ℕ). r ≡ askedOf at m)
-steps-asked at m = equation (askedOf at m)
+pub looks-asked : (at m : ℕ) → Determines (λ (r : ℕ). r ≡ askedOf at m)
+looks-asked at m = equation (askedOf at m)
 
-pub steps-beyond : (opens m : ℕ) → Determines (λ (r : ℕ). r ≡ beyondOf opens m)
-steps-beyond opens m = equation (beyondOf opens m)
+pub looks-beyond : (opens m : ℕ) → Determines (λ (r : ℕ). r ≡ beyondOf opens m)
+looks-beyond opens m = equation (beyondOf opens m)
 
-pub steps-spot : (at low m len : ℕ) (x : Arrival) → Determines (λ (r : ℕ). r ≡ spotOf at low m len (x .part .total))
-steps-spot at low m len x = equation (spotOf at low m len (x .part .total))
+pub looks-spot : (at low m len : ℕ) (x : Arrival) → Determines (λ (r : ℕ). r ≡ spotOf at low m len (x .part .total))
+looks-spot at low m len x = equation (spotOf at low m len (x .part .total))
 
-pub steps-shares : (opens : ℕ) (s : Seen) (marks : List ℕ)
+pub looks-shares : (opens : ℕ) (s : Seen) (marks : List ℕ)
     → Determines (λ (r : Shares). r ≡ sharesSeen opens (s .opens) (desksOf marks))
-steps-shares opens s marks = equation (sharesSeen opens (s .opens) (desksOf marks))
+looks-shares opens s marks = equation (sharesSeen opens (s .opens) (desksOf marks))
 
--- ---- steps: the steps. Of the stores the first two know the length
+pub looks-freed-at : (g : GivenUp) (at len : ℕ) → Determines (λ (r : ℕ). r ≡ freedAt g at len)
+looks-freed-at g at len = equation (freedAt g at len)
+
+-- ---- steps. Of the stores the first two know the length
 module _ (table : ℕ) (h : Shares) (rows marks : List ℕ) (store-len : ℕ) (who : Name) (x : Arrival) (rest out : List ℕ) where
   abbrev stores : List ℕ
   stores = replicate store-len 0
@@ -211,12 +156,12 @@ module _ (table : ℕ) (h : Shares) (rows marks : List ℕ) (store-len : ℕ) (w
       (λ (z : Plan). (z .answer, z .rows, z .marks, z .out)) (λ r. refl)
       (lost stores) r s (a stores (length-replicate store-len 0)) (b stores (length-replicate store-len 0))
 
-pub steps-pass-step : (table at m : ℕ) (rows marks stores : List ℕ) (who : Name) (x : Reading) (rest out : List ℕ)
-    → Determines (λ (r : Answer × List ℕ × List ℕ × List ℕ × List ℕ). (p : Place) → p .used ≡ (at <? m)
+pub steps-pass-step : (table : ℕ) (is-open : Bool) (rows marks stores : List ℕ) (who : Name) (x : Reading) (rest out : List ℕ)
+    → Determines (λ (r : Answer × List ℕ × List ℕ × List ℕ × List ℕ). (p : Place) → p .used ≡ is-open
     → plan p (r .0) (r .1) (r .2) (r .3) (r .4) ≡ passPlanned table p rows marks stores out who x rest)
 unfolding bare
-steps-pass-step table at m rows marks stores who x rest out =
-    let p = any (at <? m) in
+steps-pass-step table is-open rows marks stores who x rest out =
+    let p = any is-open in
     λ r s a b.
     determined (λ (r : Answer × List ℕ × List ℕ × List ℕ × List ℕ). plan p (r .0) (r .1) (r .2) (r .3) (r .4))
     (λ (z : Plan). (z .answer, z .rows, z .marks, z .stores, z .out)) (λ r. refl)
@@ -233,9 +178,7 @@ steps-yield-step table at m rows marks who =
     (λ (z : Yield). (z .answer, z .rows, z .marks)) (λ r. refl)
     (yielding table p rows marks who) r s (a p refl) (b p refl)
 
-pub steps-freed-at : (g : GivenUp) (at len : ℕ) → Determines (λ (r : ℕ). r ≡ freedAt g at len)
-steps-freed-at g at len = equation (freedAt g at len)
-
-pub steps-look-up : (marks stores : List ℕ) (desk index : ℕ) (book : List ℕ)
+-- ---- shows
+pub shows-look-up : (marks stores : List ℕ) (desk index : ℕ) (book : List ℕ)
     → Determines (λ (bytes : List ℕ). bytes ≡ lookedUp marks stores desk index book)
-steps-look-up marks stores desk index book = equation (lookedUp marks stores desk index book)
+shows-look-up marks stores desk index book = equation (lookedUp marks stores desk index book)

@@ -149,7 +149,7 @@ fn size_for(n: usize, each: usize) -> usize
     requires { ⌜ each ≤ storeSize ⌝ }
     ensures { λ r. ⌜ r ≡ needed (λ (m : ℕ). each * m) n ⌝ }
 {
-    if steps::tests::is_improper(n) {
+    if gate::is_improper(n) {
         return 0;
     }
     each * n
@@ -198,7 +198,7 @@ pub extern "C" fn spindlefig_rows(n: usize) -> usize
 pub extern "C" fn spindlefig_marks(n: usize) -> usize
     ensures { λ r. ⌜ r ≡ needed marksNeed n ⌝ }
 {
-    if steps::tests::is_improper(n) {
+    if gate::is_improper(n) {
         return 0;
     }
     HEAD_SIZE + MARKS_EACH * n

@@ -192,7 +192,7 @@ pub(crate) fn give_up(d: Desk, time: u32) -> Desk {
     let mut marks = d.marks;
     let mut place = d.place;
     value(b"give up", time as usize);
-    match settle::give_up(place.used, &mut row, &mut marks, time) {
+    match ends::give_up(place.used, &mut row, &mut marks, time) {
         GivenUp::Freed => {
             place = sample::closed();
             print::word(b" freed");

@@ -1,11 +1,11 @@
 // One call on a place by value: it is taken apart, settled over its numbers and arrays, and put together again.
+use asks::Arrival;
 use desk::Shares;
 use paper::Answer;
 use paper::limits::PARTS_MOST;
 use paper::limits::SAMPLE_MOST;
 use sample::Head;
 use sample::Place;
-use settle::Arrival;
 ghost use mathlib.Core.Path.{_≡_};
 ghost use mathlib.Core.Bool.{false};
 ghost use Prim.Native.Nat.{_<_};
@@ -134,8 +134,8 @@ pub(crate) fn receive(
     out: &mut [u8],
 ) -> Turn {
     let r = unit::read(rest);
-    if settle::is_part(r) {
-        let x = settle::arrived(r);
+    if asks::is_part(r) {
+        let x = asks::arrived(r);
         return take_part(h, place, row, marks, time, x, rest, out);
     }
     let answer = settle::pass(place.used, row, marks, store, time, r, rest, out);

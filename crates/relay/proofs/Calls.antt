@@ -50,48 +50,48 @@ use Rattle.desk.proofs.Shares.Laws as Sh′
 use Rattle.desk.specs.declared.GivenUp.{GivenUp}
 use Rattle.desk.proofs.GivenUp as G
 use Rattle.desk.proofs.GivenUp.Laws as G′
-use Rattle.settle.specs.declared.Arrival.{Arrival}
-use Rattle.settle.specs.Settled.{arrivalOf}
-use Rattle.settle.proofs.Arrival as Ar
-use Rattle.settle.proofs.Arrival.Laws as Ar′
+use Rattle.asks.specs.declared.Arrival.{Arrival}
+use Rattle.asks.specs.Settled.{arrivalOf}
+use Rattle.asks.proofs.Arrival as Ar
+use Rattle.asks.proofs.Arrival.Laws as Ar′
 use Rattle.table.specs.declared.Seen.{Seen}
 use Rattle.table.proofs.Seen as S
 use Rattle.table.proofs.Seen.Laws as S′
 use Rattle.table.proofs.Calls.{slice}
 use Rattle.memory.specs.Relay.{desksOf}
-use Rattle.steps.specs.Plan.{reachOf, reachFor, askedOf, beyondOf, sharesSeen, Bounded, spotOf, freedAt}
-use Rattle.steps.proofs.reach as reach
-use Rattle.steps.proofs.reach.Symbol as reach-def
-use Rattle.steps.proofs.reach.Symbol.{name as #reach}
-use Rattle.steps.proofs.reach.Met as reach-thm
-use Rattle.steps.proofs.reach_for as reach-for
-use Rattle.steps.proofs.reach_for.Symbol as reach-for-def
-use Rattle.steps.proofs.reach_for.Symbol.{name as #reach-for}
-use Rattle.steps.proofs.reach_for.Met as reach-for-thm
-use Rattle.steps.proofs.shares as shares
-use Rattle.steps.proofs.shares.Symbol as shares-def
-use Rattle.steps.proofs.shares.Symbol.{name as #shares}
-use Rattle.steps.proofs.shares.Met as shares-thm
-use Rattle.steps.proofs.asked as asked
-use Rattle.steps.proofs.asked.Symbol as asked-def
-use Rattle.steps.proofs.asked.Symbol.{name as #asked}
-use Rattle.steps.proofs.asked.Met as asked-thm
-use Rattle.steps.proofs.beyond as beyond
-use Rattle.steps.proofs.beyond.Symbol as beyond-def
-use Rattle.steps.proofs.beyond.Symbol.{name as #beyond}
-use Rattle.steps.proofs.beyond.Met as beyond-thm
-use Rattle.steps.proofs.spot as spot
-use Rattle.steps.proofs.spot.Symbol as spot-def
-use Rattle.steps.proofs.spot.Symbol.{name as #spot}
-use Rattle.steps.proofs.spot.Met as spot-thm
-use Rattle.settle.proofs.arrived as arrived
-use Rattle.settle.proofs.arrived.Symbol as arrived-def
-use Rattle.settle.proofs.arrived.Symbol.{name as #arrived}
-use Rattle.settle.proofs.arrived.Met as arrived-thm
-use Rattle.steps.proofs.freed_at as freed-at
-use Rattle.steps.proofs.freed_at.Symbol as freed-at-def
-use Rattle.steps.proofs.freed_at.Symbol.{name as #freed-at}
-use Rattle.steps.proofs.freed_at.Met as freed-at-thm
+use Rattle.looks.specs.Looks.{reachOf, reachFor, askedOf, beyondOf, sharesSeen, Bounded, spotOf, freedAt}
+use Rattle.looks.proofs.reach as reach
+use Rattle.looks.proofs.reach.Symbol as reach-def
+use Rattle.looks.proofs.reach.Symbol.{name as #reach}
+use Rattle.looks.proofs.reach.Met as reach-thm
+use Rattle.looks.proofs.reach_for as reach-for
+use Rattle.looks.proofs.reach_for.Symbol as reach-for-def
+use Rattle.looks.proofs.reach_for.Symbol.{name as #reach-for}
+use Rattle.looks.proofs.reach_for.Met as reach-for-thm
+use Rattle.looks.proofs.shares as shares
+use Rattle.looks.proofs.shares.Symbol as shares-def
+use Rattle.looks.proofs.shares.Symbol.{name as #shares}
+use Rattle.looks.proofs.shares.Met as shares-thm
+use Rattle.looks.proofs.asked as asked
+use Rattle.looks.proofs.asked.Symbol as asked-def
+use Rattle.looks.proofs.asked.Symbol.{name as #asked}
+use Rattle.looks.proofs.asked.Met as asked-thm
+use Rattle.looks.proofs.beyond as beyond
+use Rattle.looks.proofs.beyond.Symbol as beyond-def
+use Rattle.looks.proofs.beyond.Symbol.{name as #beyond}
+use Rattle.looks.proofs.beyond.Met as beyond-thm
+use Rattle.looks.proofs.spot as spot
+use Rattle.looks.proofs.spot.Symbol as spot-def
+use Rattle.looks.proofs.spot.Symbol.{name as #spot}
+use Rattle.looks.proofs.spot.Met as spot-thm
+use Rattle.asks.proofs.arrived as arrived
+use Rattle.asks.proofs.arrived.Symbol as arrived-def
+use Rattle.asks.proofs.arrived.Symbol.{name as #arrived}
+use Rattle.asks.proofs.arrived.Met as arrived-thm
+use Rattle.looks.proofs.freed_at as freed-at
+use Rattle.looks.proofs.freed_at.Symbol as freed-at-def
+use Rattle.looks.proofs.freed_at.Symbol.{name as #freed-at}
+use Rattle.looks.proofs.freed_at.Met as freed-at-thm
 
 -- ---- the contracts, and what each is passed
 module _ {M : Type 1} (𝓤 : URA M) (H : Heap 𝓤) (A : Atoms 𝓤) (mem : Memory → SProp 𝓤) (run : Routine → Fun 𝓤) where

@@ -1,12 +1,12 @@
 // The relay for up to eight desks over memory that the caller lends: set-up, receive, give-up and lookup. What decides is in `steps` and
 // `settle`; here are the functions over the lent places, which look at them, lend one and hand on all else.
+use asks::Arrival;
 use desk::GivenUp;
 use desk::Shares;
 use memory::Started;
 use paper::Answer;
 use paper::Name;
 use sample::Place;
-use settle::Arrival;
 use unit::Reading;
 ghost use mathlib.Core.Path.{_≡_};
 ghost use mathlib.Core.Bool.{true, false};
@@ -33,11 +33,11 @@ pub fn set_up(
     let r = rows.len();
     let k = marks.len();
     let s = stores.len();
-    let made = steps::fresh::fit(n, len, r, k, s);
-    let m = steps::fresh::places_of(made);
+    let made = fresh::fit(n, len, r, k, s);
+    let m = fresh::places_of(made);
     table::clear(places, m);
-    steps::fresh::make_fresh(rows, marks, stores, made);
-    steps::fresh::answer_of(made)
+    fresh::make_fresh(rows, marks, stores, made);
+    fresh::answer_of(made)
 }
 
 // Takes a part over place i, which is its sample's or a free one: its numbers go by value, its arrays are lent where they stand.
@@ -119,16 +119,16 @@ fn join(
     ensures { λ a. ⌜ Receives (lent places rows marks stores) who rest out a ⌝ }
 {
     let len = table::len(places);
-    let m = steps::reach(marks, who, len);
+    let m = looks::reach(marks, who, len);
     let at = table::find(places, m, who);
-    let k = steps::asked(at, m);
-    let opens = table::count(places, k, who);
-    let e = steps::beyond(opens, k);
+    let k = looks::asked(at, m);
+    let opens = table::count(places, k, who, false);
+    let e = looks::beyond(opens, k);
     let seen = table::scan(places, e);
-    let h = steps::shares(opens, seen, marks, who);
+    let h = looks::shares(opens, seen, marks, who);
     let low = table::lowest(places, k);
-    let x = settle::arrived(r);
-    let i = steps::spot(at, low, m, len, x);
+    let x = asks::arrived(r);
+    let i = looks::spot(at, low, m, len, x);
     let s = stores.len();
     join_at(places, i, len, h, rows, marks, s, who, x, rest, out)
 }
@@ -148,9 +148,9 @@ fn pass(
     ensures { λ a. ⌜ Receives (lent places rows marks stores) who rest out a ⌝ }
 {
     let len = table::len(places);
-    let m = steps::reach_for(marks, who, len, r);
-    let at = table::find(places, m, who);
-    steps::pass_step(len, at, m, rows, marks, stores, who, r, rest, out)
+    let m = looks::reach_for(marks, who, len, r);
+    let is_open = table::is_open(places, m, who);
+    steps::pass_step(len, is_open, rows, marks, stores, who, r, rest, out)
 }
 
 // Takes the unit at the front of the rest, which a desk sent at the running time.
@@ -166,7 +166,7 @@ pub fn receive(
     ensures { λ a. ⌜ Receives (lent places rows marks stores) who rest out a ⌝ }
 {
     let r = unit::read(rest);
-    if settle::is_part(r) {
+    if asks::is_part(r) {
         join(places, rows, marks, stores, who, r, rest, out)
     } else {
         pass(places, rows, marks, stores, who, r, rest, out)
@@ -178,10 +178,10 @@ pub fn give_up(places: &mut [Place], rows: &mut [u32], marks: &mut [u32], who: N
     ensures { λ r. ⌜ GivesUp (lentThree places rows marks) who r ⌝ }
 {
     let len = table::len(places);
-    let m = steps::reach(marks, who, len);
+    let m = looks::reach(marks, who, len);
     let at = table::find(places, m, who);
     let g = steps::yield_step(len, at, m, rows, marks, who);
-    let i = steps::freed_at(g, at, len);
+    let i = looks::freed_at(g, at, len);
     table::free(places, m, i);
     g
 }
@@ -196,5 +196,5 @@ pub fn lookup<'a>(
 ) -> &'a [u8]
     ensures { λ r. ⌜ now r ≡ lookedUp (now (marks .entry)) (now (stores .entry)) desk index (now (book .entry)) ⌝ }
 {
-    steps::look_up(marks, stores, desk, index, book)
+    shows::look_up(marks, stores, desk, index, book)
 }

@@ -1,3 +1,1 @@
-pub mod Settled
-pub mod Takes
-pub mod Opens
+pub mod Settles

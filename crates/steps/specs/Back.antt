@@ -35,18 +35,21 @@ use Rattle.desk.specs.declared.GivenUp.{GivenUp}
 use Rattle.desk.specs.declared.GivenUp.the-variants as G
 use Rattle.desk.specs.Desk.{Own, After, Given, own, says, stay, refuse, finish, isPart, six, usedUp, sampleOf, completed, joining, partTaken, descriptionTaken, taken, received, givenUp}
 use Rattle.desk.specs.Effects.{asksPart, unheard-part}
-use Rattle.settle.specs.declared.Arrival.{Arrival}
-use Rattle.settle.specs.Settled.{openIn, laid, hasPlace, partOf, arrivalOf, unasked, passed}
-use Rattle.table.specs.Table.{seen, stored}
+use Rattle.asks.specs.declared.Arrival.{Arrival}
+use Rattle.asks.specs.Settled.{openIn, laid, hasPlace, partOf, arrivalOf, unasked, passed}
+use Rattle.table.specs.Table.{seen, stored, holds}
+use Rattle.settle.specs.Settles.{received-any as any-received}
 use Rattle.table.specs.Turn.{opens-le}
 use Rattle.memory.specs.Table.{vacant, mine, isAt}
 use Rattle.memory.specs.Relay.{Tables, tables, desksOf, placesOf, rowOf, marksOf, storeOf, commonUse, sharesOf, openAt, ownOf, standsAt, placed, putBack}
 use Rattle.memory.specs.Relay.{stranger, lacking, lacksThree, Done, done, ordered, settled, receivedAmong, receivedAt, Released, released, yielded, returned, givenUpAmong, givenUpAt}
 use Rattle.memory.specs.Back.{placed-open, put-same}
 use Rattle.memory.specs.Lent.{Slice, Lent}
-use Rattle.steps.specs.Plan.{reachOf, reachFor, askedOf, beyondOf, commonSeen, sharesSeen, Bounded, spotOf, gated, Plan, plan, planOf, ownAt, partPlanned, laidPlan, passPlanned}
-use Rattle.steps.specs.Plan.{Yield, yield, yielding, placeAfter, freedAt}
-use Rattle.steps.specs.Tests.{proper, three-long, all-long}
+use Rattle.looks.specs.Looks.{reachOf, reachFor, askedOf, beyondOf, commonSeen, sharesSeen, Bounded, spotOf}
+use Rattle.steps.specs.Plan.{gated, Plan, plan, planOf, ownAt, partPlanned, laidPlan, passPlanned}
+use Rattle.steps.specs.Plan.{Yield, yield, yielding, placeAfter}
+use Rattle.looks.specs.Looks.{freedAt}
+use Rattle.gate.specs.Tests.{proper, three-long, all-long}
 
 -- ---- a part, kept at place i; at none where i is past the end
 abbrev pub beforeAt : (i : ℕ) → List Place → Place
@@ -149,6 +152,9 @@ module _ (desk time m : ℕ) (l : List Place) (fits : m ≤ length l) where
       go : (b : Bool) → (at <? m) ≡ b → found .used ≡ b
       go true e = and-of _ _ (seek-hit (isAt desk time) (take m l) closed (omega (arith, lt-of _ _ e, long))) .0
       go false e = ap (λ (y : Place). y .used) (List·getD-eq-default (take m l) closed (omega (arith, ge-of _ _ e, long)))
+
+  found-holds : found .used ≡ holds (isAt desk time) (take m l)
+  found-holds = found-used ∙ ap (λ (k : ℕ). at <? k) (sym long)
 
   -- where it stands
   stands-found : at < m → (p : Place) → standsAt desk time p (take m l) ≡ at
@@ -527,19 +533,9 @@ module _ (s : Tables) (who : Name) where
   -- ---- any other unit: the places stay
   module _ (rest out : List ℕ) (r : Reading) (read : r ≡ readOf rest) (no-part : isPart (r .unit) ≡ false) where
     received-any : (h : Shares) (o : Own) → passed o (who .time) r rest ≡ received h o (who .desk) (who .time) rest
-    unfolding passed received
     received-any h o =
-        sym (no _ _ no-part refl) ∙ go (r .unit) no-part
-        ∙ ap (λ (z : Reading). taken h o (who .desk) (who .time) (z .used) rest (z .unit)) read
-      where
-        go : (u : Unit) → isPart u ≡ false
-            → taken unasked o 0 (who .time) (r .used) rest u ≡ taken h o (who .desk) (who .time) (r .used) rest u
-        go (U.Part w) e = absurd (true≢false e)
-        go U.End e = refl
-        go (U.Skipped t) e = refl
-        go (U.Refused w) e = refl
-        go (U.Whole w) e = refl
-        go (U.Description w) e = refl
+        ap (λ (z : Reading). passed o (who .time) z rest) read
+        ∙ any-received h o (who .desk) (who .time) rest (ap (λ (z : Reading). isPart (z .unit)) (sym read) ∙ no-part)
 
     -- what a call left that kept to its plan for p, where p is the desk's sample
     abbrev planned : Place → Plan
@@ -614,7 +610,7 @@ module _ (s : Tables) (who : Name) where
         go false false (U.Description w) k = refl
 
     pub passed-is : (a : Answer) (rows marks stores out′ : List ℕ)
-        → ((p : Place) → p .used ≡ (seek (isAt (who .desk) (who .time)) (take (reachFor n len (r .unit)) (s .places)) <? reachFor n len (r .unit))
+        → ((p : Place) → p .used ≡ holds (isAt (who .desk) (who .time)) (take (reachFor n len (r .unit)) (s .places))
         → plan p a rows marks stores out′ ≡ planned p)
         → done (tables (s .places) rows marks stores) out′ a ≡ receivedAt s who rest out
     unfolding _⇒_⁏_
@@ -630,7 +626,7 @@ module _ (s : Tables) (who : Name) where
         it = found (who .desk) (who .time) k (s .places) fits
 
         kept-to : plan it a rows marks stores out′ ≡ planned it
-        kept-to = e it (found-used (who .desk) (who .time) k (s .places) fits)
+        kept-to = e it (found-holds (who .desk) (who .time) k (s .places) fits)
 
         go : (b : Bool) → one ≡ b → (c : Bool) → hasPlace (r .unit) ≡ c → done (tables (s .places) rows marks stores) out′ a ≡ receivedAt s who rest out
         go true f c g =

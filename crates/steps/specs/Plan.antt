@@ -1,18 +1,14 @@
--- The steps of a call in between: what of the table is looked at, what the shares hear of it, and what a call leaves of everything but
--- the table. Assumes nothing.
-use Prim.Native.Nat.{ℕ, _+_, _-_, _*_, _≤_, min}
+-- The steps of a call in between: what a call leaves of everything but the table. Assumes nothing.
+use Prim.Native.Nat.{ℕ, _+_, _*_}
 use mathlib.Core.Bool.{Bool}
 use mathlib.Core.List.{List, []}
-use lib.ListN.{length, getD}
-use lib.Seq.{sets}
-use Rattle.laws.specs.Rows.{_⇒_⁏_, _or_, _and_, _<?_, _=?_}
+use lib.ListN.{length}
+use Rattle.laws.specs.Rows.{_⇒_⁏_, _or_, _<?_}
 use Rattle.laws.specs.Region.{part, splice}
-use Rattle.laws.specs.Sums.{sum}
-use Rattle.paper.specs.Limits.{sampleMost, finishedMost, desksMost, ownPlaces, marksEach, storeSize, headSize, places}
+use Rattle.paper.specs.Limits.{sampleMost, finishedMost, marksEach, storeSize, headSize}
 use Rattle.paper.specs.declared.Answer.{Answer}
 use Rattle.paper.specs.declared.Name.{Name}
 use Rattle.paper.specs.declared.Refusal.the-variants as R
-use Rattle.unit.specs.declared.Unit.{Unit}
 use Rattle.unit.specs.declared.Reading.{Reading}
 use Rattle.sample.specs.declared.Place.{Place}
 use Rattle.sample.specs.Place.{closed}
@@ -20,53 +16,11 @@ use Rattle.desk.specs.declared.Shares.{Shares}
 use Rattle.desk.specs.declared.GivenUp.{GivenUp}
 use Rattle.desk.specs.declared.GivenUp.the-variants as G
 use Rattle.desk.specs.Desk.{Own, After, Given, own, refuse, partTaken}
-use Rattle.settle.specs.declared.Arrival.{Arrival}
-use Rattle.settle.specs.Settled.{hasPlace, laid, passed}
-use Rattle.memory.specs.declared.Started.{Started}
-use Rattle.memory.specs.declared.Started.the-variants.{Ready, Refused}
-use Rattle.memory.specs.Relay.{rowOf, marksOf, storeOf, desksOf, improper, stranger, lacks, lacksThree, freshMarks, yielded}
-use Rattle.steps.specs.declared.tests.Gate.{Gate}
-use Rattle.steps.specs.declared.tests.Gate.the-variants.{Through, Shut}
-
--- ---- what is looked at: of `len` places that are lent, those of n desks
-unfoldable pub reachOf : (n len : ℕ) → ℕ
-reachOf n len = desksMost <? n ⇒ 0 ⁏ min (places n) len
-
--- none where the unit names no sample
-abbrev pub reachFor : (n len : ℕ) → Unit → ℕ
-reachFor n len u = hasPlace u ⇒ reachOf n len ⁏ 0
-
--- the desk's own open samples are counted only where its sample was not found among the first m places; those of all desks only where
--- two or more of its own are open
-unfoldable pub askedOf : (at m : ℕ) → ℕ
-askedOf at m = at <? m ⇒ 0 ⁏ m
-
-unfoldable pub beyondOf : (opens m : ℕ) → ℕ
-beyondOf opens m = opens <? ownPlaces ⇒ 0 ⁏ m
-
--- the shares, from the desk's open samples and those of each desk
-abbrev pub commonSeen : (each : List ℕ) → (n : ℕ) → ℕ
-commonSeen each n = sum (min n desksMost) (λ (e : ℕ). getD each e 0 - ownPlaces)
-
-abbrev pub sharesSeen : (opens : ℕ) → (each : List ℕ) → (n : ℕ) → Shares
-sharesSeen opens each n = record { opens = opens; common = commonSeen each n; desks = n }
-
--- no desk has more open samples than there can be places
-abbrev pub Bounded : (each : List ℕ) → Type 0
-Bounded each = (e : ℕ) → getD each e 0 ≤ places desksMost
-
--- where a part is kept: in the place of its sample, else in the lowest free one, where the part does not end its sample at once; `len`
--- where in none
-unfoldable pub spotOf : (at low m len total : ℕ) → ℕ
-spotOf at low m len total = at <? m ⇒ at ⁏ low <? m and 1 <? total ⇒ low ⁏ len
+use Rattle.asks.specs.declared.Arrival.{Arrival}
+use Rattle.asks.specs.Settled.{laid, passed}
+use Rattle.memory.specs.Relay.{rowOf, marksOf, storeOf, desksOf, stranger, lacks, lacksThree, yielded}
 
 -- ---- 1 and 2
-unfoldable pub gateOf : (n table rows marks stores desk out : ℕ) → Gate
-gateOf n table rows marks stores desk out =
-    stranger n desk or lacks n table rows marks stores ⇒ Shut R.Desk
-    ⁏ out <? sampleMost ⇒ Shut R.Output
-    ⁏ Through
-
 -- 1 (`one` says whether), 2, then what the desk makes of it
 unfoldable pub gated : (one : Bool) → Own → (time : ℕ) → After → After
 gated one s time a =
@@ -142,21 +96,7 @@ yielding table p rows marks who =
     (yielded (stranger (desksOf marks) (who .desk) or lacksThree (desksOf marks) table (length rows) (length marks))
     (own p (rowOf (who .desk) rows) (marksOf (who .desk) marks) [] []) (who .time))
 
--- the place after a give-up, and which place is to be freed: `len` where none
+-- the place after a give-up
 abbrev pub placeAfter : GivenUp → Place → Place
 placeAfter G.Freed p = closed
 placeAfter (G.Refused r) p = p
-
-abbrev pub freedAt : GivenUp → (at len : ℕ) → ℕ
-freedAt G.Freed at len = at
-freedAt (G.Refused r) at len = len
-
--- ---- set-up: the number of desks made, which is 0 where it is refused
-unfoldable pub fitting : (n table rows marks stores : ℕ) → ℕ
-fitting n table rows marks stores = improper n or lacks n table rows marks stores ⇒ 0 ⁏ n
-
-unfoldable pub startedOf : (n : ℕ) → Started
-startedOf n = n =? 0 ⇒ Refused R.Desk ⁏ Ready
-
-unfoldable pub madeMarks : (n : ℕ) → List ℕ → List ℕ
-madeMarks n l = n =? 0 ⇒ l ⁏ sets l 0 (freshMarks n)

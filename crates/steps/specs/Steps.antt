@@ -1,14 +1,13 @@
 -- One law for each way that the steps return, in the code's own values. Assumes nothing.
-use Prim.Native.Nat.{ℕ, _+_, _-_, _*_, _<_}
+use Prim.Native.Nat.{ℕ, _+_, _-_, _*_}
 use native.Mathlib.Omega.{arith}
 use mathlib.Core.Path.{_≡_, refl, sym, ap, _∙_}
 use mathlib.Core.Bool.{Bool, true, false}
 use mathlib.Core.List.{List, []}
-use lib.ListN.{length, getD, drop}
-use lib.Seq.{getD-take, getD-drop}
-use Rattle.laws.specs.Rows.{_⇒_⁏_, _<?_, yes, no, lt}
+use lib.ListN.{length}
+use Rattle.laws.specs.Rows.{_⇒_⁏_, yes, no}
 use Rattle.laws.specs.Region.{part, splice, splice-part}
-use Rattle.paper.specs.Limits.{finishedMost, headSize, marksEach, storeSize, marksNeed, storesNeed}
+use Rattle.paper.specs.Limits.{finishedMost, headSize, marksEach, storeSize}
 use Rattle.paper.specs.declared.Answer.{Answer}
 use Rattle.paper.specs.declared.Name.{Name}
 use Rattle.paper.specs.declared.Refusal.{Refusal}
@@ -17,19 +16,19 @@ use Rattle.paper.specs.declared.Outcome.the-variants as O
 use Rattle.unit.specs.declared.Reading.{Reading}
 use Rattle.sample.specs.declared.Place.{Place}
 use Rattle.sample.specs.Place.{bare, closed}
-use Rattle.style.specs.Shown.{shown}
 use Rattle.desk.specs.declared.Shares.{Shares}
 use Rattle.desk.specs.declared.GivenUp.{GivenUp}
 use Rattle.desk.specs.declared.GivenUp.the-variants as G
-use Rattle.desk.specs.Desk.{Own, After, Given, own, says, turn, left, freed, refuse, newestOf, partTaken, givenUp}
-use Rattle.settle.specs.declared.Arrival.{Arrival}
-use Rattle.settle.specs.Settled.{openIn, laid, laidIn, passed}
-use Rattle.memory.specs.Relay.{desksOf, rowOf, marksOf, storeOf, stranger, short, lacksThree, yielded, lookedUp, lookedUpAmong}
-use Rattle.steps.specs.declared.tests.Gate.{Gate}
-use Rattle.steps.specs.declared.tests.Gate.the-variants.{Through, Shut}
-use Rattle.steps.specs.Plan.{gateOf, gated, Plan, plan, planOf, ownAt, settledPlan, partOfRest, partPlanned, laidPlan, passPlanned}
+use Rattle.desk.specs.Desk.{Own, After, Given, own, says, turn, left, freed, refuse, partTaken, givenUp}
+use Rattle.asks.specs.declared.Arrival.{Arrival}
+use Rattle.asks.specs.Settled.{openIn, laid, laidIn, passed}
+use Rattle.memory.specs.Relay.{desksOf, rowOf, marksOf, storeOf, stranger, lacksThree, yielded}
+use Rattle.gate.specs.declared.Gate.{Gate}
+use Rattle.gate.specs.declared.Gate.the-variants.{Through, Shut}
+use Rattle.gate.specs.Gate.{gateOf}
+use Rattle.steps.specs.Plan.{gated, Plan, plan, planOf, ownAt, settledPlan, partOfRest, partPlanned, laidPlan, passPlanned}
 use Rattle.steps.specs.Plan.{yield, yieldOf, yielding, placeAfter}
-use Rattle.steps.specs.Tests.{either, other, shut, clear}
+use Rattle.gate.specs.Tests.{either, other, shut, clear}
 
 -- a part s[a..a + k] of k elements
 widths : (a k : ℕ) → a + k - a ≡ k
@@ -237,28 +236,3 @@ module _ (table : ℕ) (p : Place) (rows marks : List ℕ) (who : Name) where
           ∙ ap (λ (z : Given). z .own .place) (sym e′) in
           rw (same, widths (rowAt (who .desk)) finishedMost, widths (markAt (who .desk)) marksEach)
           (ap (yieldOf (who .desk) rows marks) (e′ ∙ no _ _ (other _ _ _ (sym f ∙ known) (sym k ∙ enough)) refl))
-
--- ---- lookup
-module _ (marks stores : List ℕ) (desk index : ℕ) (book : List ℕ) (b : Bool) (f : b ≡ stranger (desksOf marks) desk) where
-  pub look-stranger : b ≡ true → [] ≡ lookedUp marks stores desk index book
-  unfolding lookedUpAmong
-  look-stranger h = yes _ _ (either _ _ (sym f ∙ h)) refl
-
-  module _ (known : b ≡ false) where
-    pub look-marks : length marks < marksNeed (desksOf marks) → [] ≡ lookedUp marks stores desk index book
-    unfolding lookedUpAmong short
-    look-marks h = yes _ _ (other _ _ _ (sym f ∙ known) (either _ _ (lt _ _ h))) refl
-
-    module _ (enough : (length marks <? marksNeed (desksOf marks)) ≡ false) where
-      pub look-stores : length stores < storesNeed (desksOf marks) → [] ≡ lookedUp marks stores desk index book
-      unfolding lookedUpAmong short
-      look-stores h = yes _ _ (other _ _ _ (sym f ∙ known) (other _ _ _ enough (lt _ _ h))) refl
-
-      pub look-through : (length stores <? storesNeed (desksOf marks)) ≡ false → (r store : List ℕ) (newest : ℕ)
-          → store ≡ part (storeAt desk) storeSize stores → newest ≡ getD marks (markAt desk + 1) 0
-          → r ≡ shown book store newest index → r ≡ lookedUp marks stores desk index book
-      unfolding lookedUpAmong short
-      look-through h r store newest x y z =
-          let v : newestOf (marksOf desk marks) ≡ newest =
-          getD-take marksEach (drop (markAt desk) marks) 1 0 (omega arith) ∙ getD-drop (markAt desk) marks 1 0 ∙ sym y in
-          no _ _ (other _ _ _ (sym f ∙ known) (other _ _ _ enough h)) (z ∙ rw (x, v))

@@ -1,6 +1,6 @@
 -- What the walks over the table call besides each other: for each callee its contract, that a table of calls knows it, what it is passed,
 -- that a caller has what it asks, and the call as one step of a walk, after which the context is as it was before.
---     Least, Closed, Below     the contracts.        KnowsLeast ..      a table of calls knows it.        knows-least ..      the machine's does
+--     Least, Closed, Below, Near     the contracts.        KnowsLeast ..      a table of calls knows it.        knows-least ..      the machine's does
 -- Assumes `Given`.
 use mathlib.Core.Path.{_≡_, refl}
 use Prim.Native.Nat.{ℕ, _<_, _^_, min}
@@ -29,7 +29,7 @@ use denote.Triple.Spec.{tripleOf}
 use denote.Triple.Table.{cited}
 use Rattle.walks.proofs.Steps.{calls-said}
 use Rattle.walks.proofs.Passed.{landed}
-use Rattle.laws.specs.Rows.{_and_, _<?_}
+use Rattle.laws.specs.Rows.{_⇒_⁏_, _and_, _<?_, _=?_}
 use Rattle.sample.specs.Place.{closed}
 use Rattle.sample.proofs.Place as P
 use Rattle.sample.proofs.Place.Laws as P′
@@ -45,6 +45,10 @@ use Rattle.table.proofs.is_below as below
 use Rattle.table.proofs.is_below.Symbol as below-def
 use Rattle.table.proofs.is_below.Symbol.{name as #below}
 use Rattle.table.proofs.is_below.Met as below-thm
+use Rattle.table.proofs.near as near
+use Rattle.table.proofs.near.Symbol as near-def
+use Rattle.table.proofs.near.Symbol.{name as #near}
+use Rattle.table.proofs.near.Met as near-thm
 
 -- ---- the contracts, what each is passed, and that a caller has what it asks
 module _ {M : Type 1} (𝓤 : URA M) (H : Heap 𝓤) (A : Atoms 𝓤) (mem : Memory → SProp 𝓤) (run : Routine → Fun 𝓤) where
@@ -75,6 +79,15 @@ module _ {M : Type 1} (𝓤 : URA M) (H : Heap 𝓤) (A : Atoms 𝓤) (mem : Mem
   abbrev to-below : (i m n : ℕ) → Below .Ghost
   to-below i m n = ((tt, tt, tt, (i, (m, (n, tt))), (vint w64 i ∷ [], (vint w64 m ∷ [], (vint w64 n ∷ [], tt)))), tt)
 
+  abbrev Near : Contract 𝓤
+  Near = tripleOf 𝓤 H A near.signature (near.spec 𝓤 H A mem run)
+
+  abbrev pub KnowsNear : Calls 𝓤 H → Type 1
+  KnowsNear C = Triple 𝓤 (C #near) Near
+
+  abbrev to-near : (c m : ℕ) → Near .Ghost
+  to-near c m = ((tt, tt, tt, (c, (m, tt)), (vint w64 c ∷ [], (vint w64 m ∷ [], tt))), tt)
+
   module _ (W : Given 𝓤 H A) where
     asked-least : (a b : ℕ) → a < 2 ^ 64 → b < 2 ^ 64 → ent 𝓤 (emp 𝓤) (Least .pre (to-least a b))
     asked-least a b ga gb =
@@ -89,6 +102,11 @@ module _ {M : Type 1} (𝓤 : URA M) (H : Heap 𝓤) (A : Atoms 𝓤) (mem : Mem
         qed W [] ∵ nothing ! $ nothing ! $ owned ! usize (Is usize) (uint-makes 𝓤 H A W w64) n _ (refl, gn) $ fjoin ! $
         owned ! usize (Is usize) (uint-makes 𝓤 H A W w64) m _ (refl, gm) $ fjoin ! $ owned ! usize (Is usize) (uint-makes 𝓤 H A W w64) i _ (refl, gi) $ fjoin ! $
         move ! (1 ∷ 0 ∷ []) $ join ! $ frame ! $ done !
+
+    asked-near : (c m : ℕ) → c < 2 ^ 64 → m < 2 ^ 64 → ent 𝓤 (emp 𝓤) (Near .pre (to-near c m))
+    asked-near c m gc gm =
+        qed W [] ∵ nothing ! $ nothing ! $ owned ! usize (Is usize) (uint-makes 𝓤 H A W w64) m _ (refl, gm) $ fjoin ! $
+        owned ! usize (Is usize) (uint-makes 𝓤 H A W w64) c _ (refl, gc) $ fjoin ! $ move ! (1 ∷ 0 ∷ []) $ join ! $ frame ! $ done !
 
 -- ---- the calls as steps of a walk
 module _ {M : Type 1} {𝓤 : URA M} {H : Heap 𝓤} {A : Atoms 𝓤} {K : Type 0} {W : Given 𝓤 H A} {Γ : List (Item 𝓤)} {E : Env 𝓤 H} {C : Calls 𝓤 H} {Λ : Loops 𝓤 H} {q : Post 𝓤 H} {d : Spot} {rest : Body} {xs : List Operand} where
@@ -116,6 +134,14 @@ module _ {M : Type 1} {𝓤 : URA M} {H : Heap 𝓤} {A : Atoms 𝓤} {K : Type 
       calls-said t fm below.ended (below.clauses 𝓤 H A mem run) known (to-below 𝓤 H A mem run i m n) (λ r. r ≡ (i <? m and i <? n)) (λ r e. id⊢ 𝓤 _) os (λ u r e.
       landed t bool vbool bool-tells (i <? m and i <? n) r e u (λ is. drop t $ k is))
 
+  pub calls-near : K → (mem : Memory → SProp 𝓤) (run : Routine → Fun 𝓤) → FmC 𝓤 H (W .laws) C → KnowsNear 𝓤 H A mem run C → (c m : ℕ) → c < 2 ^ 64 → m < 2 ^ 64
+      → Opds K W (raw (Near 𝓤 H A mem run .pre (to-near 𝓤 H A mem run c m)) ∷ Γ) E xs (vint w64 c ∷ vint w64 m ∷ [])
+      → (Is usize (c =? 0 ⇒ 0 ⁏ m) (vint w64 (c =? 0 ⇒ 0 ⁏ m) ∷ []) → Seq K W Γ (lands C Λ E d (vint w64 (c =? 0 ⇒ 0 ⁏ m)) rest q)) → Seq K W Γ (runs C Λ E (seq (call #near xs d) rest) q)
+  calls-near t mem run fm known c m gc gm os k =
+      use0 W (raw (Near 𝓤 H A mem run .pre (to-near 𝓤 H A mem run c m))) (asked-near 𝓤 H A mem run W c m gc gm) $
+      calls-said t fm near.ended (near.clauses 𝓤 H A mem run) known (to-near 𝓤 H A mem run c m) (λ r. r ≡ (c =? 0 ⇒ 0 ⁏ m)) (λ r e. id⊢ 𝓤 _) os (λ u r e.
+      landed t usize (vint w64) (uint-tells w64) (c =? 0 ⇒ 0 ⁏ m) r e u (λ is. drop t $ k is))
+
 -- ---- the machine's table of calls knows each
 module _ {M : Type 1} (𝓤 : URA M) (H : Heap 𝓤) (𝓜 : Model 𝓤 H) (𝓖 : GhostRules 𝓤 H) (𝓡 : Running 𝓤 H 𝓜) (γ : Codes) where
   pub knows-least : γ #least ≡ least-def.routine → KnowsLeast 𝓤 H (𝓖 .A) (𝓜 .mem) (𝓡 .run) (tables 𝓤 H 𝓜 𝓡 γ .C)
@@ -126,3 +152,6 @@ module _ {M : Type 1} (𝓤 : URA M) (H : Heap 𝓤) (𝓜 : Model 𝓤 H) (𝓖
 
   pub knows-below : γ #below ≡ below-def.routine → KnowsBelow 𝓤 H (𝓖 .A) (𝓜 .mem) (𝓡 .run) (tables 𝓤 H 𝓜 𝓡 γ .C)
   knows-below p = cited 𝓤 H (Below 𝓤 H (𝓖 .A) (𝓜 .mem) (𝓡 .run)) 𝓜 𝓡 γ #below below-def.routine p (below-thm.met 𝓤 H 𝓜 𝓖 𝓡)
+
+  pub knows-near : γ #near ≡ near-def.routine → KnowsNear 𝓤 H (𝓖 .A) (𝓜 .mem) (𝓡 .run) (tables 𝓤 H 𝓜 𝓡 γ .C)
+  knows-near p = cited 𝓤 H (Near 𝓤 H (𝓖 .A) (𝓜 .mem) (𝓡 .run)) 𝓜 𝓡 γ #near near-def.routine p (near-thm.met 𝓤 H 𝓜 𝓖 𝓡)

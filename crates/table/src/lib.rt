@@ -7,12 +7,12 @@ ghost use mathlib.Core.Path.{_≡_};
 ghost use mathlib.Core.List.{[]};
 ghost use Prim.Native.Nat.{_+_, _<_, _^_};
 ghost use lib.ListN.{length, take, getD, set};
-ghost use Rattle.laws.specs.Rows.{_and_, _<?_, _=?_};
+ghost use Rattle.laws.specs.Rows.{_⇒_⁏_, _and_, _<?_, _=?_};
 ghost use Rattle.laws.specs.Table.{bit, seek, count};
 ghost use Rattle.sample.specs.Head.{headOf};
 ghost use Rattle.sample.specs.Place.{closed};
-ghost use Rattle.memory.specs.Table.{vacant, mine, isAt};
-ghost use Rattle.table.specs.Table.{seen, stored, cleared, headed};
+ghost use Rattle.memory.specs.Table.{vacant, isAt};
+ghost use Rattle.table.specs.Table.{counts, holds, seen, stored, cleared, headed};
 ghost use Rattle.table.specs.Turn.{counted, turned};
 
 // What one pass over all desks sees: each desk's open samples.
@@ -83,11 +83,18 @@ pub fn lowest(t: &[Place], m: usize) -> usize
     i
 }
 
-// One where a place is the desk's.
-fn one(used: bool, own: usize, who: Name) -> usize
-    ensures { λ r. ⌜ r ≡ bit (used and own =? who .desk) ⌝ }
+// One where a place counts: where it is asked by time, one that bears the time of the name, used or not; else one of the name's desk.
+fn one(used: bool, own: usize, when: u32, who: Name, timed: bool) -> usize
+    ensures { λ r. ⌜ r ≡ bit (timed ⇒ when =? who .time ⁏ used and own =? who .desk) ⌝ }
 {
     let desk = who.desk;
+    let time = who.time;
+    if timed {
+        if when != time {
+            return 0;
+        }
+        return 1;
+    }
     if used {
         if own == desk {
             return 1;
@@ -96,19 +103,40 @@ fn one(used: bool, own: usize, who: Name) -> usize
     0
 }
 
-// How many of the first m places are the desk's.
-pub fn count(t: &[Place], m: usize, who: Name) -> usize
-    ensures { λ r. ⌜ r ≡ count (mine (who .desk)) (take m (now (t .entry))) ⌝ }
+// How many of the first m places count. No turn is left early, so that the compiler takes several places at once.
+pub fn count(t: &[Place], m: usize, who: Name, timed: bool) -> usize
+    ensures { λ r. ⌜ r ≡ count (counts timed who) (take m (now (t .entry))) ⌝ }
 {
     let n = octets::least(t.len(), m);
     let mut c = 0;
     let mut i = 0;
     while i < n {
         let p = &t[i];
-        c += one(p.used, p.desk, who);
+        c += one(p.used, p.desk, p.time, who, timed);
         i += 1;
     }
     c
+}
+
+// How many places are searched: none where none counts.
+fn near(c: usize, m: usize) -> usize
+    ensures { λ r. ⌜ r ≡ (c =? 0 ⇒ 0 ⁏ m) ⌝ }
+{
+    if c == 0 {
+        return 0;
+    }
+    m
+}
+
+// Whether the sample of a name is open among the first m places. Most often none bears the time, and then none is searched.
+pub fn is_open(t: &[Place], m: usize, who: Name) -> bool
+    ensures { λ r. ⌜ r ≡ holds (isAt (who .desk) (who .time)) (take m (now (t .entry))) ⌝ }
+{
+    let n = octets::least(t.len(), m);
+    let c = count(t, n, who, true);
+    let k = near(c, n);
+    let at = find(t, k, who);
+    at < k
 }
 
 // The count of desk e, with one more of desk own.

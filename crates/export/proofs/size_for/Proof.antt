@@ -4,7 +4,7 @@ use native.Mathlib.Nat.{mul-le-mul}
 use mathlib.Core.Path.{refl, sym, _∙_}
 use Rattle.laws.specs.Rows.{yes, no}
 use Rattle.paper.specs.Limits.{desksMost, storeSize}
-use Rattle.steps.specs.Tests.{few}
+use Rattle.gate.specs.Tests.{few}
 use borrow.Author.Needs.{needs}
 use Rattle.export.proofs.size_for.Statement.{statement}
 use Rattle.export.proofs.size_for.Tie as tie

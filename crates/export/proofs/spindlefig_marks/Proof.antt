@@ -2,7 +2,7 @@
 use native.Mathlib.Omega.{arith}
 use mathlib.Core.Path.{refl, sym, _∙_}
 use Rattle.laws.specs.Rows.{yes, no}
-use Rattle.steps.specs.Tests.{few}
+use Rattle.gate.specs.Tests.{few}
 use borrow.Author.Needs.{needs}
 use Rattle.export.proofs.spindlefig_marks.Statement.{statement}
 use Rattle.export.proofs.spindlefig_marks.Tie as tie

@@ -55,7 +55,8 @@ use Rattle.table.specs.Table.{stored}
 use Rattle.table.proofs.Calls.{KnowsLen, KnowsFind, KnowsFree, knows-len, knows-find, knows-free, calls-len, calls-find, calls-free}
 use Rattle.memory.specs.Table.{isAt}
 use Rattle.memory.specs.Relay.{desksOf, tables as lent-tables}
-use Rattle.steps.specs.Plan.{reachOf, yield, yielding, placeAfter, freedAt}
+use Rattle.looks.specs.Looks.{reachOf, freedAt}
+use Rattle.steps.specs.Plan.{yield, yielding, placeAfter}
 use Rattle.steps.specs.Back.{given-up-is}
 use Rattle.steps.proofs.yield_step as yield′
 use Rattle.steps.proofs.yield_step.Symbol as yield′-def
@@ -148,7 +149,7 @@ module _ {M : Type 1} (𝓤 : URA M) (H : Heap 𝓤) (A : Atoms 𝓤) (W : Given
         land ! (from ! (stop !)) (init ! 16 refl (uint-lawful 𝓤 H A W w64 .typed len _ is-len .0)) $
         assigns ! (addr ! (from ! (fld ! refl (hop ! (look-in ! 12 (sub ! 0 refl (whole !))) (stop !))))) (from ! (stop !)) (init ! 30 refl (tt, tt)) $
         assigns ! (agg ! (and-then ! (load ! (from ! (stop !)) (look ! 30 refl)) (and-then ! (load ! (from ! (fld ! refl (stop !))) (look-in ! 12 (sub ! 1 refl (whole !)))) (no-more !)))) (from ! (stop !)) (init ! 32 refl (tt, (tt, (record { fits = room-marks .0 }, tt)))) $
-        -- `steps::reach`
+        -- `looks::reach`
         move ! (5 ∷ 3 ∷ []) $ calls-reach ! mem run fm known-reach (κs .1 .1 .0) (qs .1 .1 .0) (name marks) (ptr marks .0) (ptr marks .1) (now marks) who len fits (is-len .1) (λ ν δ. (and-then ! (load ! (from ! (stop !)) (look ! 32 refl)) (and-then ! (load ! (from ! (stop !)) (look ! 14 refl)) (and-then ! (load ! (from ! (stop !)) (look ! 16 refl)) (no-more !))))) (λ is-m.
         land ! (from ! (stop !)) (init ! 18 refl (uint-lawful 𝓤 H A W w64 .typed m _ is-m .0)) $ move ! (2 ∷ 3 ∷ 4 ∷ 1 ∷ 5 ∷ 0 ∷ []) $
         assigns ! (addr ! (from ! (fld ! refl (hop ! (look-in ! 8 (sub ! 0 refl (whole !))) (stop !))))) (from ! (stop !)) (init ! 34 refl (tt, tt)) $
@@ -169,7 +170,7 @@ module _ {M : Type 1} (𝓤 : URA M) (H : Heap 𝓤) (A : Atoms 𝓤) (W : Given
         fsplit ! $ drop ! $ fsplit ! $ drop ! $ fsplit ! $ drop ! $ fsplit ! $ fsplit ! $ move ! (1 ∷ []) $ feqL ! (λ long-rows. move ! (1 ∷ []) $ fsplit ! $ fsplit ! $ move ! (1 ∷ []) $ feqL ! (λ long-marks. move ! (1 ∷ []) $ fsplit ! $ drop ! $ drop ! $
         move ! (2 ∷ []) $ split ! $ move ! (1 ∷ []) $ landed ! G.the-row (EL.val G.the-type G′.the-laws) (EL.tells G.the-type G′.the-laws) g g refl u (λ is-g.
         land ! (from ! (stop !)) (init ! 21 refl (EL.lawful G.the-type G′.the-laws 𝓤 H A W tt .typed g _ is-g .0)) $ split ! $ move ! (1 ∷ []) $ split ! $ move ! (1 ∷ []) $ drop ! $
-        -- `steps::freed_at`
+        -- `looks::freed_at`
         calls-freed-at ! mem run fm known-freed-at g at len is-g (is-at .1) (is-len .1) (and-then ! (load ! (from ! (stop !)) (look ! 23 refl)) (and-then ! (load ! (from ! (stop !)) (look ! 21 refl)) (and-then ! (load ! (from ! (stop !)) (look ! 17 refl)) (no-more !)))) (λ is-i.
         land ! (from ! (stop !)) (init ! 24 refl (uint-lawful 𝓤 H A W w64 .typed (freedAt g at len) _ is-i .0)) $
         assigns ! (addr ! (from ! (fld ! refl (hop ! (look-in ! 8 (sub ! 0 refl (whole !))) (stop !))))) (from ! (stop !)) (init ! 48 refl (tt, tt)) $
@@ -203,8 +204,8 @@ give-up-spec 𝓤 H 𝓜 𝓖 𝓡 =
     (tables 𝓤 H 𝓜 𝓡 code.env .C) (tables 𝓤 H 𝓜 𝓡 code.env .Λ) #relay·give-up code.function (code.unfolded 𝓤 H 𝓜 𝓡)
     (meets 𝓤 H (𝓖 .A) (givenOf 𝓤 H 𝓜 𝓖) (𝓜 .mem) (𝓡 .run) (tablesOf 𝓤 H 𝓜 (tables 𝓤 H 𝓜 𝓡 code.env))
     (knows-len 𝓤 H 𝓜 𝓖 𝓡 code.env code.calls-table·len)
-    (knows-reach 𝓤 H 𝓜 𝓖 𝓡 code.env code.calls-steps·reach)
+    (knows-reach 𝓤 H 𝓜 𝓖 𝓡 code.env code.calls-looks·reach)
     (knows-find 𝓤 H 𝓜 𝓖 𝓡 code.env code.calls-table·find)
-    (knows-freed-at 𝓤 H 𝓜 𝓖 𝓡 code.env code.calls-steps·freed-at)
+    (knows-freed-at 𝓤 H 𝓜 𝓖 𝓡 code.env code.calls-looks·freed-at)
     (knows-free 𝓤 H 𝓜 𝓖 𝓡 code.env code.calls-table·free)
     (cited 𝓤 H (YieldStep 𝓤 H (𝓖 .A) (𝓜 .mem) (𝓡 .run)) 𝓜 𝓡 code.env #yield′ yield′-def.routine code.calls-steps·yield-step (yield′-thm.met 𝓤 H 𝓜 𝓖 𝓡)))

@@ -19,7 +19,7 @@ use contract.Monad.{Fun, fact}
 use contract.Running.{givenOf, tables, tablesOf}
 use types.Kit.{Given, Item, ‵, raw, some, later, _⊛_, ⋆, _$_, _∵_, !, qed, by, move, drop, use1, split, join, group, pick, fsplit, fjoin, feqL, suffices, frame, await, done}
 use types.Part.{agg, whole, sub, look-in}
-use types.Run.{look, init, stop, hop, addr, fld, from, load, of-opd, and-then, no-more, assigns, land, returns, enter, alloc1, alloc0, params1, pass1, pass0, free0}
+use types.Run.{look, init, stop, hop, addr, fld, from, load, false-lit, of-opd, and-then, no-more, assigns, land, returns, enter, alloc1, alloc0, params1, pass1, pass0, free0}
 use sound.WpLaws.{FmC, fmOf, WpFn-mono}
 use denote.RattleType.{flat, owns}
 use denote.Laws.{Is, shows}
@@ -57,17 +57,17 @@ use Rattle.sample.specs.Place.{closed}
 use Rattle.desk.specs.declared.Shares as D
 use Rattle.desk.proofs.Shares as Sh
 use Rattle.desk.proofs.Shares.Laws as Sh′
-use Rattle.settle.specs.declared.Arrival.{Arrival}
-use Rattle.settle.specs.Settled.{arrivalOf}
-use Rattle.settle.proofs.Arrival as Ar
-use Rattle.settle.proofs.Arrival.Laws as Ar′
+use Rattle.asks.specs.declared.Arrival.{Arrival}
+use Rattle.asks.specs.Settled.{arrivalOf}
+use Rattle.asks.proofs.Arrival as Ar
+use Rattle.asks.proofs.Arrival.Laws as Ar′
 use Rattle.memory.specs.Table.{vacant, mine, isAt}
 use Rattle.memory.specs.Relay.{Tables as Tabled, tables as lent-tables, done as leaves, desksOf}
 use Rattle.table.specs.declared.Seen.{Seen}
 use Rattle.table.specs.Table.{seen}
 use Rattle.table.proofs.Seen as S
 use Rattle.table.proofs.Seen.Laws as S′
-use Rattle.steps.specs.Plan.{reachOf, askedOf, beyondOf, sharesSeen, spotOf}
+use Rattle.looks.specs.Looks.{reachOf, askedOf, beyondOf, sharesSeen, spotOf}
 use Rattle.steps.specs.Back.{joinedAt, bounded-seen, beyond-most, spot-opens, joined-is}
 use Rattle.table.proofs.Calls.{KnowsLen, KnowsFind, KnowsCount, KnowsScan, KnowsLowest, knows-len, knows-find, knows-count, knows-scan, knows-lowest}
 use Rattle.table.proofs.Calls.{calls-len, calls-find, calls-count, calls-scan, calls-lowest}
@@ -204,7 +204,7 @@ module _ {M : Type 1} (𝓤 : URA M) (H : Heap 𝓤) (A : Atoms 𝓤) (W : Given
         land ! (from ! (stop !)) (init ! 36 refl (uint-lawful 𝓤 H A W w64 .typed k _ is-k .0)) $
         assigns ! (addr ! (from ! (fld ! refl (hop ! (look-in ! 14 (sub ! 0 refl (whole !))) (stop !))))) (from ! (stop !)) (init ! 66 refl (tt, tt)) $
         assigns ! (agg ! (and-then ! (load ! (from ! (stop !)) (look ! 66 refl)) (and-then ! (load ! (from ! (fld ! refl (stop !))) (look-in ! 14 (sub ! 1 refl (whole !)))) (no-more !)))) (from ! (stop !)) (init ! 68 refl (tt, (tt, (record { fits = room-places .0 }, tt)))) $
-        calls-count ! mem run fm known-count (κs .0) (qs .0) (name places) (ptr places .0) (ptr places .1) (now places) k who (is-k .1) fits (λ ν δ. (and-then ! (load ! (from ! (stop !)) (look ! 68 refl)) (and-then ! (load ! (from ! (stop !)) (look ! 36 refl)) (and-then ! (load ! (from ! (stop !)) (look ! 22 refl)) (no-more !))))) (λ is-opens.
+        calls-count ! mem run fm known-count (κs .0) (qs .0) (name places) (ptr places .0) (ptr places .1) (now places) k who false (is-k .1) fits (λ ν δ. (and-then ! (load ! (from ! (stop !)) (look ! 68 refl)) (and-then ! (load ! (from ! (stop !)) (look ! 36 refl)) (and-then ! (load ! (from ! (stop !)) (look ! 22 refl)) (and-then ! (false-lit !) (no-more !)))))) (λ is-opens.
         land ! (from ! (stop !)) (init ! 38 refl (uint-lawful 𝓤 H A W w64 .typed opens _ is-opens .0)) $
         calls-beyond ! mem run fm known-beyond opens k (is-opens .1) (is-k .1) (and-then ! (load ! (from ! (stop !)) (look ! 39 refl)) (and-then ! (load ! (from ! (stop !)) (look ! 37 refl)) (no-more !))) (λ is-far.
         land ! (from ! (stop !)) (init ! 40 refl (uint-lawful 𝓤 H A W w64 .typed far _ is-far .0)) $
@@ -268,14 +268,14 @@ join-spec 𝓤 H 𝓜 𝓖 𝓡 =
     (tables 𝓤 H 𝓜 𝓡 code.env .C) (tables 𝓤 H 𝓜 𝓡 code.env .Λ) #relay·join code.function (code.unfolded 𝓤 H 𝓜 𝓡)
     (meets 𝓤 H (𝓖 .A) (givenOf 𝓤 H 𝓜 𝓖) (𝓜 .mem) (𝓡 .run) (tablesOf 𝓤 H 𝓜 (tables 𝓤 H 𝓜 𝓡 code.env))
     (knows-len 𝓤 H 𝓜 𝓖 𝓡 code.env code.calls-table·len)
-    (knows-reach 𝓤 H 𝓜 𝓖 𝓡 code.env code.calls-steps·reach)
+    (knows-reach 𝓤 H 𝓜 𝓖 𝓡 code.env code.calls-looks·reach)
     (knows-find 𝓤 H 𝓜 𝓖 𝓡 code.env code.calls-table·find)
-    (knows-asked 𝓤 H 𝓜 𝓖 𝓡 code.env code.calls-steps·asked)
+    (knows-asked 𝓤 H 𝓜 𝓖 𝓡 code.env code.calls-looks·asked)
     (knows-count 𝓤 H 𝓜 𝓖 𝓡 code.env code.calls-table·count)
-    (knows-beyond 𝓤 H 𝓜 𝓖 𝓡 code.env code.calls-steps·beyond)
+    (knows-beyond 𝓤 H 𝓜 𝓖 𝓡 code.env code.calls-looks·beyond)
     (knows-scan 𝓤 H 𝓜 𝓖 𝓡 code.env code.calls-table·scan)
-    (knows-shares 𝓤 H 𝓜 𝓖 𝓡 code.env code.calls-steps·shares)
+    (knows-shares 𝓤 H 𝓜 𝓖 𝓡 code.env code.calls-looks·shares)
     (knows-lowest 𝓤 H 𝓜 𝓖 𝓡 code.env code.calls-table·lowest)
-    (knows-arrived 𝓤 H 𝓜 𝓖 𝓡 code.env code.calls-settle·arrived)
-    (knows-spot 𝓤 H 𝓜 𝓖 𝓡 code.env code.calls-steps·spot)
+    (knows-arrived 𝓤 H 𝓜 𝓖 𝓡 code.env code.calls-asks·arrived)
+    (knows-spot 𝓤 H 𝓜 𝓖 𝓡 code.env code.calls-looks·spot)
     (cited 𝓤 H (JoinAt 𝓤 H (𝓖 .A) (𝓜 .mem) (𝓡 .run)) 𝓜 𝓡 code.env #last′ last′-def.routine code.calls-relay·join-at (last′-thm.met 𝓤 H 𝓜 𝓖 𝓡)))

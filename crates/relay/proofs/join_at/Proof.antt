@@ -54,9 +54,9 @@ use Rattle.sample.proofs.Place as P
 use Rattle.desk.specs.declared.Shares as D
 use Rattle.desk.proofs.Shares as Sh
 use Rattle.desk.proofs.Shares.Laws as Sh′
-use Rattle.settle.specs.declared.Arrival.{Arrival}
-use Rattle.settle.proofs.Arrival as Ar
-use Rattle.settle.proofs.Arrival.Laws as Ar′
+use Rattle.asks.specs.declared.Arrival.{Arrival}
+use Rattle.asks.proofs.Arrival as Ar
+use Rattle.asks.proofs.Arrival.Laws as Ar′
 use Rattle.memory.specs.Relay.{tables as lent-tables, done as leaves}
 use Rattle.steps.specs.Plan.{plan, partPlanned}
 use Rattle.steps.specs.Back.{joinedAt, lost-done}

@@ -67,13 +67,13 @@ use Rattle.sample.proofs.Place.Laws as P′
 use Rattle.desk.specs.declared.Shares as D
 use Rattle.desk.proofs.Shares as Sh
 use Rattle.desk.proofs.Shares.Laws as Sh′
-use Rattle.settle.specs.declared.Arrival.{Arrival}
-use Rattle.settle.specs.declared.Settled.{Settled}
-use Rattle.settle.specs.Settled.{openIn}
-use Rattle.settle.proofs.Arrival as Ar
-use Rattle.settle.proofs.Arrival.Laws as Ar′
-use Rattle.settle.proofs.Settled as St
-use Rattle.settle.proofs.Settled.Laws as St′
+use Rattle.asks.specs.declared.Arrival.{Arrival}
+use Rattle.asks.specs.declared.Settled.{Settled}
+use Rattle.asks.specs.Settled.{openIn}
+use Rattle.asks.proofs.Arrival as Ar
+use Rattle.asks.proofs.Arrival.Laws as Ar′
+use Rattle.asks.proofs.Settled as St
+use Rattle.asks.proofs.Settled.Laws as St′
 use Rattle.memory.specs.Relay.{tables as lent-tables, done as leaves}
 use Rattle.table.specs.Table.{headed}
 use Rattle.table.proofs.Calls.{KnowsHead, KnowsSetHead, knows-head, knows-set-head, calls-head, calls-set-head}

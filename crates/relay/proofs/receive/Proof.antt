@@ -59,10 +59,10 @@ use Rattle.unit.proofs.read as read′
 use Rattle.unit.proofs.read.Symbol as read′-def
 use Rattle.unit.proofs.read.Symbol.{name as #read′}
 use Rattle.unit.proofs.read.Met as read′-thm
-use Rattle.settle.proofs.is_part as part′
-use Rattle.settle.proofs.is_part.Symbol as part′-def
-use Rattle.settle.proofs.is_part.Symbol.{name as #part′}
-use Rattle.settle.proofs.is_part.Met as part′-thm
+use Rattle.asks.proofs.is_part as part′
+use Rattle.asks.proofs.is_part.Symbol as part′-def
+use Rattle.asks.proofs.is_part.Symbol.{name as #part′}
+use Rattle.asks.proofs.is_part.Met as part′-thm
 use Rattle.relay.proofs.join as join′
 use Rattle.relay.proofs.join.Symbol as join′-def
 use Rattle.relay.proofs.join.Symbol.{name as #join′}
@@ -215,7 +215,7 @@ module _ {M : Type 1} (𝓤 : URA M) (H : Heap 𝓤) (A : Atoms 𝓤) (W : Given
         calls-said ! fm read′.ended (read′.clauses 𝓤 H A mem run) known-read to-read (λ z. z ≡ r) (λ z e. id⊢ 𝓤 _) (and-then ! (load ! (from ! (stop !)) (look ! 24 refl)) (no-more !)) (λ v z e.
         landed ! Rd.the-row (LL.val Rd.the-type Rd′.the-laws) (LL.tells Rd.the-type Rd′.the-laws) r z e v (λ is-r. use1 W (‵ (flft (κs .1 .1 .1 .1 .0) (qs .1 .1 .1 .1 .0)) ⊛ ‵ ftrue) (id⊢ 𝓤 _) $ split ! $ move ! (1 ∷ []) $ drop ! $
         land ! (from ! (stop !)) (init ! 28 refl (LL.lawful Rd.the-type Rd′.the-laws 𝓤 H A W .typed r _ is-r .0)) $ move ! (2 ∷ 3 ∷ 4 ∷ 5 ∷ 0 ∷ 6 ∷ 7 ∷ 8 ∷ 9 ∷ 10 ∷ 1 ∷ 11 ∷ []) $
-        -- `settle::is_part`
+        -- `asks::is_part`
         use0 W (raw (IsPart 𝓤 H A mem run .pre to-part)) (goes-part is-r) $
         calls-said ! fm part′.ended (part′.clauses 𝓤 H A mem run) known-part to-part (λ b. b ≡ one) (λ b e. id⊢ 𝓤 _) (and-then ! (load ! (from ! (stop !)) (look ! 29 refl)) (no-more !)) (λ v b e.
         landed ! bool vbool bool-tells one b e v (λ is-one. drop ! $
@@ -284,6 +284,6 @@ receive-spec 𝓤 H 𝓜 𝓖 𝓡 =
     (tables 𝓤 H 𝓜 𝓡 code.env .C) (tables 𝓤 H 𝓜 𝓡 code.env .Λ) #relay·receive code.function (code.unfolded 𝓤 H 𝓜 𝓡)
     (meets 𝓤 H (𝓖 .A) (givenOf 𝓤 H 𝓜 𝓖) (𝓜 .mem) (𝓡 .run) (tablesOf 𝓤 H 𝓜 (tables 𝓤 H 𝓜 𝓡 code.env))
     (cited 𝓤 H (Read 𝓤 H (𝓖 .A) (𝓜 .mem) (𝓡 .run)) 𝓜 𝓡 code.env #read′ read′-def.routine code.calls-unit·read (read′-thm.met 𝓤 H 𝓜 𝓖 𝓡))
-    (cited 𝓤 H (IsPart 𝓤 H (𝓖 .A) (𝓜 .mem) (𝓡 .run)) 𝓜 𝓡 code.env #part′ part′-def.routine code.calls-settle·is-part (part′-thm.met 𝓤 H 𝓜 𝓖 𝓡))
+    (cited 𝓤 H (IsPart 𝓤 H (𝓖 .A) (𝓜 .mem) (𝓡 .run)) 𝓜 𝓡 code.env #part′ part′-def.routine code.calls-asks·is-part (part′-thm.met 𝓤 H 𝓜 𝓖 𝓡))
     (cited 𝓤 H (Join 𝓤 H (𝓖 .A) (𝓜 .mem) (𝓡 .run)) 𝓜 𝓡 code.env #join′ join′-def.routine code.calls-relay·join (join′-thm.met 𝓤 H 𝓜 𝓖 𝓡))
     (cited 𝓤 H (Pass 𝓤 H (𝓖 .A) (𝓜 .mem) (𝓡 .run)) 𝓜 𝓡 code.env #pass′ pass′-def.routine code.calls-relay·pass (pass′-thm.met 𝓤 H 𝓜 𝓖 𝓡)))

@@ -47,28 +47,28 @@ use denote.Enum.Laws as EL
 use Rattle.memory.proofs.Started as N
 use Rattle.memory.proofs.Started.Laws as N′
 use Rattle.memory.specs.Relay.{tables as lent-tables}
-use Rattle.steps.specs.Plan.{fitting, startedOf, madeMarks}
-use Rattle.steps.specs.Start.{fitting-most, set-up-is}
+use Rattle.fresh.specs.Fresh.{fitting, startedOf, madeMarks}
+use Rattle.fresh.specs.Start.{fitting-most, set-up-is}
 use Rattle.table.proofs.clear as clear′
 use Rattle.table.proofs.clear.Symbol as clear′-def
 use Rattle.table.proofs.clear.Symbol.{name as #clear′}
 use Rattle.table.proofs.clear.Met as clear′-thm
-use Rattle.steps.proofs.fresh.fit as fit′
-use Rattle.steps.proofs.fresh.fit.Symbol as fit′-def
-use Rattle.steps.proofs.fresh.fit.Symbol.{name as #fit′}
-use Rattle.steps.proofs.fresh.fit.Met as fit′-thm
-use Rattle.steps.proofs.fresh.make_fresh as make-fresh′
-use Rattle.steps.proofs.fresh.make_fresh.Symbol as make-fresh′-def
-use Rattle.steps.proofs.fresh.make_fresh.Symbol.{name as #make-fresh′}
-use Rattle.steps.proofs.fresh.make_fresh.Met as make-fresh′-thm
-use Rattle.steps.proofs.fresh.answer_of as answer-of′
-use Rattle.steps.proofs.fresh.answer_of.Symbol as answer-of′-def
-use Rattle.steps.proofs.fresh.answer_of.Symbol.{name as #answer-of′}
-use Rattle.steps.proofs.fresh.answer_of.Met as answer-of′-thm
-use Rattle.steps.proofs.fresh.places_of as places-of′
-use Rattle.steps.proofs.fresh.places_of.Symbol as places-of′-def
-use Rattle.steps.proofs.fresh.places_of.Symbol.{name as #places-of′}
-use Rattle.steps.proofs.fresh.places_of.Met as places-of′-thm
+use Rattle.fresh.proofs.fit as fit′
+use Rattle.fresh.proofs.fit.Symbol as fit′-def
+use Rattle.fresh.proofs.fit.Symbol.{name as #fit′}
+use Rattle.fresh.proofs.fit.Met as fit′-thm
+use Rattle.fresh.proofs.make_fresh as make-fresh′
+use Rattle.fresh.proofs.make_fresh.Symbol as make-fresh′-def
+use Rattle.fresh.proofs.make_fresh.Symbol.{name as #make-fresh′}
+use Rattle.fresh.proofs.make_fresh.Met as make-fresh′-thm
+use Rattle.fresh.proofs.answer_of as answer-of′
+use Rattle.fresh.proofs.answer_of.Symbol as answer-of′-def
+use Rattle.fresh.proofs.answer_of.Symbol.{name as #answer-of′}
+use Rattle.fresh.proofs.answer_of.Met as answer-of′-thm
+use Rattle.fresh.proofs.places_of as places-of′
+use Rattle.fresh.proofs.places_of.Symbol as places-of′-def
+use Rattle.fresh.proofs.places_of.Symbol.{name as #places-of′}
+use Rattle.fresh.proofs.places_of.Met as places-of′-thm
 use Rattle.walks.proofs.Steps.{calls-said}
 use Rattle.walks.proofs.Passed.{reborrows, landed}
 use Rattle.table.proofs.Calls.{slice, KnowsLen, knows-len, calls-len}
@@ -112,7 +112,7 @@ module _ {M : Type 1} (𝓤 : URA M) (H : Heap 𝓤) (A : Atoms 𝓤) (W : Given
   abbrev Post : Val → SProp 𝓤
   Post = walkOf 𝓤 H A me.ended stayed (me.clauses 𝓤 H A mem run) .post (((κplaces, (κrows, (κmarks, (κstores, tt)))), (qplaces, (qrows, (qmarks, (qstores, tt)))), tt, a, vs), tt)
 
-  -- call 2, `steps::fresh::fit`: what its triple binds outside, and that the caller has what it asks
+  -- call 2, `fresh::fit`: what its triple binds outside, and that the caller has what it asks
   abbrev to1 : Fit 𝓤 H A mem run .Ghost
   to1 = ((tt, tt, tt, (n, ((length places), ((length rows), ((length marks), ((length stores), tt))))), ((vint w64 n) ∷ [], ((vint w64 (length places)) ∷ [], ((vint w64 (length rows)) ∷ [], ((vint w64 (length marks)) ∷ [], ((vint w64 (length stores)) ∷ [], tt)))))), tt)
 
@@ -120,7 +120,7 @@ module _ {M : Type 1} (𝓤 : URA M) (H : Heap 𝓤) (A : Atoms 𝓤) (W : Given
   goes1 f0 f1 f2 f3 f4 =
       qed W ([]) ∵ nothing ! $ nothing ! $ owned ! usize (Is usize) (uint-makes 𝓤 H A W w64) (length stores) _ (refl, f4) $ fjoin ! $ owned ! usize (Is usize) (uint-makes 𝓤 H A W w64) (length marks) _ (refl, f3) $ fjoin ! $ owned ! usize (Is usize) (uint-makes 𝓤 H A W w64) (length rows) _ (refl, f2) $ fjoin ! $ owned ! usize (Is usize) (uint-makes 𝓤 H A W w64) (length places) _ (refl, f1) $ fjoin ! $ owned ! usize (Is usize) (uint-makes 𝓤 H A W w64) n _ (refl, f0) $ fjoin ! $ move ! (1 ∷ 0 ∷ []) $ join ! $ frame ! $ done !
 
-  -- call 3, `steps::fresh::places_of`: what its triple binds outside, and that the caller has what it asks
+  -- call 3, `fresh::places_of`: what its triple binds outside, and that the caller has what it asks
   abbrev to2 : PlacesOf 𝓤 H A mem run .Ghost
   to2 = ((tt, tt, tt, (k, tt), ((vint w64 k) ∷ [], tt)), tt)
 
@@ -136,7 +136,7 @@ module _ {M : Type 1} (𝓤 : URA M) (H : Heap 𝓤) (A : Atoms 𝓤) (W : Given
   goes3 ν3places δ3places f0 =
       qed W (‵ (flft (ν3places ∷ []) fullShare) ∷ ‵ (MutSlice (named 0) (ν3places ∷ []) P.the-row .own (Ref bplaces oplaces δ3places places) (slice bplaces oplaces places ∷ [])) ∷ []) ∵ nothing ! $ move ! (1 ∷ 0 ∷ []) $ join ! $ nothing ! $ owned ! usize (Is usize) (uint-makes 𝓤 H A W w64) (placesFor k) _ (refl, f0) $ fjoin ! $ move ! (2 ∷ 0 ∷ []) $ fjoin ! $ move ! (1 ∷ 0 ∷ []) $ join ! $ frame ! $ done !
 
-  -- call 5, `steps::fresh::make_fresh`: what its triple binds outside, and that the caller has what it asks
+  -- call 5, `fresh::make_fresh`: what its triple binds outside, and that the caller has what it asks
   abbrev to4 : (ν4rows : ℕ) (δ4rows : GName) (ν4marks : ℕ) (δ4marks : GName) (ν4stores : ℕ) (δ4stores : GName) → MakeFresh 𝓤 H A mem run .Ghost
   to4 ν4rows δ4rows ν4marks δ4marks ν4stores δ4stores = (((ν4rows ∷ [], (ν4marks ∷ [], (ν4stores ∷ [], tt))), (fullShare, (fullShare, (fullShare, tt))), tt, (Ref brows orows δ4rows rows, (Ref bmarks omarks δ4marks marks, (Ref bstores ostores δ4stores stores, (k, tt)))), (slice brows orows rows ∷ [], (slice bmarks omarks marks ∷ [], (slice bstores ostores stores ∷ [], ((vint w64 k) ∷ [], tt))))), tt)
 
@@ -144,7 +144,7 @@ module _ {M : Type 1} (𝓤 : URA M) (H : Heap 𝓤) (A : Atoms 𝓤) (W : Given
   goes4 ν4rows δ4rows ν4marks δ4marks ν4stores δ4stores f0 =
       qed W (‵ (flft (ν4rows ∷ []) fullShare) ∷ ‵ (flft (ν4marks ∷ []) fullShare) ∷ ‵ (flft (ν4stores ∷ []) fullShare) ∷ ‵ (MutSlice (named 0) (ν4rows ∷ []) u32 .own (Ref brows orows δ4rows rows) (slice brows orows rows ∷ [])) ∷ ‵ (MutSlice (named 0) (ν4marks ∷ []) u32 .own (Ref bmarks omarks δ4marks marks) (slice bmarks omarks marks ∷ [])) ∷ ‵ (MutSlice (named 0) (ν4stores ∷ []) u8 .own (Ref bstores ostores δ4stores stores) (slice bstores ostores stores ∷ [])) ∷ []) ∵ says ! (fitting-most n (length places) (length rows) (length marks) (length stores)) $ nothing ! $ move ! (3 ∷ 0 ∷ []) $ join ! $ move ! (2 ∷ 0 ∷ []) $ join ! $ move ! (1 ∷ 0 ∷ []) $ join ! $ frame ! $ nothing ! $ owned ! usize (Is usize) (uint-makes 𝓤 H A W w64) k _ (refl, f0) $ fjoin ! $ move ! (3 ∷ 0 ∷ []) $ fjoin ! $ move ! (2 ∷ 0 ∷ []) $ fjoin ! $ move ! (1 ∷ 0 ∷ []) $ fjoin ! $ done !
 
-  -- call 6, `steps::fresh::answer_of`: what its triple binds outside, and that the caller has what it asks
+  -- call 6, `fresh::answer_of`: what its triple binds outside, and that the caller has what it asks
   abbrev to5 : AnswerOf 𝓤 H A mem run .Ghost
   to5 = ((tt, tt, tt, (k, tt), ((vint w64 k) ∷ [], tt)), tt)
 
@@ -171,12 +171,12 @@ module _ {M : Type 1} (𝓤 : URA M) (H : Heap 𝓤) (A : Atoms 𝓤) (W : Given
         assigns ! (of-opd ! (load ! (from ! (fld ! refl (stop !))) (look-in ! 46 (sub ! 1 refl (whole !))))) (from ! (stop !)) (init ! 38 refl (tt, record { fits = roomrows .0 })) $
         assigns ! (of-opd ! (load ! (from ! (fld ! refl (stop !))) (look-in ! 44 (sub ! 1 refl (whole !))))) (from ! (stop !)) (init ! 36 refl (tt, record { fits = roommarks .0 })) $
         assigns ! (of-opd ! (load ! (from ! (fld ! refl (stop !))) (look-in ! 42 (sub ! 1 refl (whole !))))) (from ! (stop !)) (init ! 34 refl (tt, record { fits = roomstores .0 })) $
-        -- `steps::fresh::fit`
+        -- `fresh::fit`
         use0 W (raw (Fit 𝓤 H A mem run .pre (to1))) (goes1 fitsn (is0 .1) (roomrows .0) (roommarks .0) (roomstores .0)) $
         calls-said ! fm fit′.ended (fit′.clauses 𝓤 H A mem run) known-fit′ (to1) (λ r. r ≡ k) (λ r e. id⊢ 𝓤 _) (and-then ! (load ! (from ! (stop !)) (look ! 51 refl)) (and-then ! (load ! (from ! (stop !)) (look ! 41 refl)) (and-then ! (load ! (from ! (stop !)) (look ! 39 refl)) (and-then ! (load ! (from ! (stop !)) (look ! 37 refl)) (and-then ! (load ! (from ! (stop !)) (look ! 35 refl)) (no-more !)))))) (λ w1 r1 e1.
         landed ! usize (vint w64) (uint-tells w64) k r1 e1 w1 (λ is1. drop ! $
         land ! (from ! (stop !)) (init ! 32 refl (uint-lawful 𝓤 H A W w64 .typed k _ is1 .0)) $
-        -- `steps::fresh::places_of`
+        -- `fresh::places_of`
         use0 W (raw (PlacesOf 𝓤 H A mem run .pre (to2))) (goes2 (is1 .1)) $
         calls-said ! fm places-of′.ended (places-of′.clauses 𝓤 H A mem run) known-places-of′ (to2) (λ r. r ≡ placesFor k) (λ r e. id⊢ 𝓤 _) (and-then ! (load ! (from ! (stop !)) (look ! 33 refl)) (no-more !)) (λ w2 r2 e2.
         landed ! usize (vint w64) (uint-tells w64) (placesFor k) r2 e2 w2 (λ is2. drop ! $
@@ -195,7 +195,7 @@ module _ {M : Type 1} (𝓤 : URA M) (H : Heap 𝓤) (A : Atoms 𝓤) (W : Given
         reborrows ! 46 18 16 (roomrows .0) refl refl tt refl refl refl tt refl $
         reborrows ! 44 14 12 (roommarks .0) refl refl tt refl refl refl tt refl $
         reborrows ! 42 10 8 (roomstores .0) refl refl tt refl refl refl tt refl $
-        -- `steps::fresh::make_fresh`
+        -- `fresh::make_fresh`
         move ! (2 ∷ 3 ∷ []) $ lent-mut ! tt u32 κrows qrows γrows brows orows rows (slice brows orows rows ∷ []) (λ ν4rows δ4rows.
         move ! (5 ∷ 6 ∷ []) $ lent-mut ! tt u32 κmarks qmarks γmarks bmarks omarks marks (slice bmarks omarks marks ∷ []) (λ ν4marks δ4marks.
         move ! (8 ∷ 9 ∷ []) $ lent-mut ! tt u8 κstores qstores γstores bstores ostores stores (slice bstores ostores stores ∷ []) (λ ν4stores δ4stores.
@@ -209,7 +209,7 @@ module _ {M : Type 1} (𝓤 : URA M) (H : Heap 𝓤) (A : Atoms 𝓤) (W : Given
         move ! (2 ∷ 5 ∷ 8 ∷ []) $ back-mut ! tt u32 κrows ν4rows qrows γrows δ4rows brows orows rows (ls4 .0) (sets rows 0 (replicate (rowsNeed k) 0)) (slice brows orows rows ∷ []) (e4 .0) $
         move ! (3 ∷ 5 ∷ 7 ∷ []) $ back-mut ! tt u32 κmarks ν4marks qmarks γmarks δ4marks bmarks omarks marks (ls4 .1 .0) (madeMarks k marks) (slice bmarks omarks marks ∷ []) (e4 .1) $
         move ! (4 ∷ 5 ∷ 6 ∷ []) $ back-mut ! tt u8 κstores ν4stores qstores γstores δ4stores bstores ostores stores (ls4 .1 .1 .0) (sets stores 0 (replicate (storesNeed k) 0)) (slice bstores ostores stores ∷ []) (e4 .2) $
-        -- `steps::fresh::answer_of`
+        -- `fresh::answer_of`
         use0 W (raw (AnswerOf 𝓤 H A mem run .pre (to5))) (goes5 (is1 .1)) $
         calls-said ! fm answer-of′.ended (answer-of′.clauses 𝓤 H A mem run) known-answer-of′ (to5) (λ r. r ≡ startedOf k) (λ r e. id⊢ 𝓤 _) (and-then ! (load ! (from ! (stop !)) (look ! 33 refl)) (no-more !)) (λ w5 r5 e5.
         landed ! N.the-row (EL.val N.the-type N′.the-laws) (EL.tells N.the-type N′.the-laws) (startedOf k) r5 e5 w5 (λ is5. drop ! $
@@ -240,7 +240,7 @@ set-up-spec 𝓤 H 𝓜 𝓖 𝓡 =
     (meets 𝓤 H (𝓖 .A) (givenOf 𝓤 H 𝓜 𝓖) (𝓜 .mem) (𝓡 .run) (tablesOf 𝓤 H 𝓜 (tables 𝓤 H 𝓜 𝓡 code.env))
     (knows-len 𝓤 H 𝓜 𝓖 𝓡 code.env code.calls-table·len)
     (cited 𝓤 H (Clear 𝓤 H (𝓖 .A) (𝓜 .mem) (𝓡 .run)) 𝓜 𝓡 code.env #clear′ clear′-def.routine code.calls-table·clear (clear′-thm.met 𝓤 H 𝓜 𝓖 𝓡))
-    (cited 𝓤 H (PlacesOf 𝓤 H (𝓖 .A) (𝓜 .mem) (𝓡 .run)) 𝓜 𝓡 code.env #places-of′ places-of′-def.routine code.calls-steps·fresh·places-of (places-of′-thm.met 𝓤 H 𝓜 𝓖 𝓡))
-    (cited 𝓤 H (Fit 𝓤 H (𝓖 .A) (𝓜 .mem) (𝓡 .run)) 𝓜 𝓡 code.env #fit′ fit′-def.routine code.calls-steps·fresh·fit (fit′-thm.met 𝓤 H 𝓜 𝓖 𝓡))
-    (cited 𝓤 H (MakeFresh 𝓤 H (𝓖 .A) (𝓜 .mem) (𝓡 .run)) 𝓜 𝓡 code.env #make-fresh′ make-fresh′-def.routine code.calls-steps·fresh·make-fresh (make-fresh′-thm.met 𝓤 H 𝓜 𝓖 𝓡))
-    (cited 𝓤 H (AnswerOf 𝓤 H (𝓖 .A) (𝓜 .mem) (𝓡 .run)) 𝓜 𝓡 code.env #answer-of′ answer-of′-def.routine code.calls-steps·fresh·answer-of (answer-of′-thm.met 𝓤 H 𝓜 𝓖 𝓡)))
+    (cited 𝓤 H (PlacesOf 𝓤 H (𝓖 .A) (𝓜 .mem) (𝓡 .run)) 𝓜 𝓡 code.env #places-of′ places-of′-def.routine code.calls-fresh·places-of (places-of′-thm.met 𝓤 H 𝓜 𝓖 𝓡))
+    (cited 𝓤 H (Fit 𝓤 H (𝓖 .A) (𝓜 .mem) (𝓡 .run)) 𝓜 𝓡 code.env #fit′ fit′-def.routine code.calls-fresh·fit (fit′-thm.met 𝓤 H 𝓜 𝓖 𝓡))
+    (cited 𝓤 H (MakeFresh 𝓤 H (𝓖 .A) (𝓜 .mem) (𝓡 .run)) 𝓜 𝓡 code.env #make-fresh′ make-fresh′-def.routine code.calls-fresh·make-fresh (make-fresh′-thm.met 𝓤 H 𝓜 𝓖 𝓡))
+    (cited 𝓤 H (AnswerOf 𝓤 H (𝓖 .A) (𝓜 .mem) (𝓡 .run)) 𝓜 𝓡 code.env #answer-of′ answer-of′-def.routine code.calls-fresh·answer-of (answer-of′-thm.met 𝓤 H 𝓜 𝓖 𝓡)))

@@ -6,7 +6,8 @@ use Rattle.paper.specs.declared.Answer.{Answer}
 use Rattle.sample.specs.declared.Place.{Place}
 use Rattle.sample.specs.Place.{closed, kept}
 use Rattle.desk.specs.Desk.{own, turn, left, completed}
-use Rattle.settle.specs.Opens.{new-cleared, lost, part-new, opens-not, opens-now}
+use Rattle.begins.specs.Begins.{new-cleared, opens-not, opens-now}
+use Rattle.settle.specs.Settles.{lost, part-new}
 use Rattle.settle.proofs.lose.Statement.{statement}
 use Rattle.settle.proofs.lose.Tie as tie
 

@@ -3,7 +3,7 @@ use borrow.Author.Needs.{needs}
 use mathlib.Core.Path.{refl, _∙_}
 use denote.Ref.{now}
 use Rattle.desk.specs.Desk.{own}
-use Rattle.settle.specs.Takes.{passed-is, passed-part}
+use Rattle.settle.specs.Settles.{passed-is, passed-part}
 use Rattle.settle.proofs.pass.Statement.{statement}
 use Rattle.settle.proofs.pass.Tie as tie
 

@@ -2,7 +2,7 @@
 use borrow.Author.Needs.{needs}
 use denote.Ref.{now}
 use Rattle.sample.specs.Head.{whole}
-use Rattle.settle.specs.Opens.{taken-open, taken-new}
+use Rattle.settle.specs.Settles.{taken-open, taken-new}
 use Rattle.settle.proofs.take_part.Statement.{statement}
 use Rattle.settle.proofs.take_part.Tie as tie
 

@@ -1,11 +1,10 @@
 -- `steps::pass_step` meets its contract: a gate that is shut leaves all as it was, and else the desk passes the unit. Assumes nothing.
-use native.Mathlib.Omega.{arith}
 use mathlib.Core.Path.{refl}
 use denote.Ref.{now}
 use lib.ListN.{length}
-use Rattle.laws.specs.Rows.{_<?_}
 use Rattle.memory.specs.Relay.{desksOf}
-use Rattle.steps.specs.Tests.{Fits, fits, gate-at}
+use Rattle.gate.specs.Tests.{Fits, fits, gate-at}
+use Rattle.gate.specs.Tests.{row-start, mark-each, mark-start, store-start, row-end, row-byte, row-within, mark-end, mark-byte, mark-within, store-end, store-within}
 use Rattle.steps.specs.Steps.{pass-shut, pass-through}
 use borrow.Author.Needs.{needs}
 use Rattle.steps.proofs.pass_step.Statement.{statement}
@@ -32,7 +31,6 @@ returns c = λ p o.
     (c .before .before .g .given .1) _ (c .refusal .ensures)
 
 returns-2 : tie.Need-returns-2
-unfolding _<?_
 returns-2 c = λ p o.
     let passed = c .before .before .before .before .before .before .before .before in
     let through = passed .before .before .before .before .before .before .before .before in
@@ -52,24 +50,24 @@ pass-step-spec =
     (λ c. search needs)
     (λ c κs. search needs)
     (λ c. search needs)
-    (λ c. record { fits = omega (arith, room (c .before)) })
-    (λ c. record { fits = omega (arith, room (c .before .before)) })
-    (λ c. record { fits = omega (arith, room (c .before .before)) })
-    (λ c. record { fits = omega (arith, room (c .before .before .before)) })
-    (λ c. record { fits = omega (arith, room (c .before .before .before)) })
-    (λ c. record { fits = omega (arith, room (c .before .before .before)) })
+    (λ c. record { fits = row-start (room (c .before) .0) })
+    (λ c. record { fits = mark-each (room (c .before .before) .0) })
+    (λ c. record { fits = mark-start (room (c .before .before) .0) })
+    (λ c. record { fits = store-start (room (c .before .before .before)) })
+    (λ c. record { fits = row-end (room (c .before .before .before) .0) })
+    (λ c. record { fits = row-byte (room (c .before .before .before) .0) })
     (λ c. search needs)
     (λ c. search needs)
-    (λ c. omega (arith, room (c .before .before .before)))
-    (λ c. record { fits = omega (arith, room (c .before .before .before .before)) })
-    (λ c. record { fits = omega (arith, room (c .before .before .before .before)) })
+    (λ c. row-within (room (c .before .before .before) .0))
+    (λ c. record { fits = mark-end (room (c .before .before .before .before) .0) })
+    (λ c. record { fits = mark-byte (room (c .before .before .before .before) .0) })
     (λ c. search needs)
     (λ c. search needs)
-    (λ c. omega (arith, room (c .before .before .before .before)))
-    (λ c. record { fits = omega (arith, room (c .before .before .before .before .before)) })
+    (λ c. mark-within (room (c .before .before .before .before) .0))
+    (λ c. record { fits = store-end (room (c .before .before .before .before .before)) })
     (λ c. search needs)
     (λ c. search needs)
-    (λ c. omega (arith, room (c .before .before .before .before .before)))
+    (λ c. store-within (room (c .before .before .before .before .before)))
     (λ c κs. search needs)
     (λ c. search needs)
     (λ c. search needs)

@@ -1,13 +1,13 @@
 -- `steps::yield_step` meets its contract: the refusals leave all as it was, and else the desk settles it. Assumes nothing.
 use Prim.Native.Nat.{ℕ}
-use native.Mathlib.Omega.{arith}
 use mathlib.Core.Path.{sym, ap, _∙_}
 use mathlib.Core.List.{[]}
 use denote.Ref.{now}
 use lib.ListN.{length}
 use Rattle.laws.specs.Rows.{_<?_}
 use Rattle.memory.specs.Relay.{desksOf, stranger, lacksThree}
-use Rattle.steps.specs.Tests.{FitsThree, fits-three, proper}
+use Rattle.gate.specs.Tests.{FitsThree, fits-three, proper}
+use Rattle.gate.specs.Tests.{row-start, mark-each, mark-start, row-end, row-byte, row-within, mark-end, mark-byte, mark-within}
 use Rattle.steps.specs.Steps.{yield-stranger, yield-lacking, yield-through}
 use borrow.Author.Needs.{needs}
 use Rattle.steps.proofs.yield_step.Statement.{statement}
@@ -65,19 +65,19 @@ yield-step-spec =
     (λ c κs. proper _ _ (sym (c .before .is-stranger .ensures) ∙ c .if1 .left) .0)
     (λ c. search needs)
     returns-2
-    (λ c. record { fits = omega (arith, room (c .before)) })
-    (λ c. record { fits = omega (arith, room (c .before .before)) })
-    (λ c. record { fits = omega (arith, room (c .before .before)) })
-    (λ c. record { fits = omega (arith, room (c .before .before)) })
-    (λ c. record { fits = omega (arith, room (c .before .before)) })
+    (λ c. record { fits = row-start (room (c .before)) })
+    (λ c. record { fits = mark-each (room (c .before .before)) })
+    (λ c. record { fits = mark-start (room (c .before .before)) })
+    (λ c. record { fits = row-end (room (c .before .before)) })
+    (λ c. record { fits = row-byte (room (c .before .before)) })
     (λ c. search needs)
     (λ c. search needs)
-    (λ c. omega (arith, room (c .before .before)))
-    (λ c. record { fits = omega (arith, room (c .before .before .before)) })
-    (λ c. record { fits = omega (arith, room (c .before .before .before)) })
+    (λ c. row-within (room (c .before .before)))
+    (λ c. record { fits = mark-end (room (c .before .before .before)) })
+    (λ c. record { fits = mark-byte (room (c .before .before .before)) })
     (λ c. search needs)
     (λ c. search needs)
-    (λ c. omega (arith, room (c .before .before .before)))
+    (λ c. mark-within (room (c .before .before .before)))
     (λ c κs. search needs)
     (λ c. search needs)
     (λ c. search needs)

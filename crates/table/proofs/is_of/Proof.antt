@@ -2,21 +2,16 @@
 use mathlib.Core.Path.{_≡_, refl, sym}
 use mathlib.Core.Bool.{Bool, true, false}
 use Rattle.laws.specs.Rows.{_⇒_⁏_, _and_, _=?_, no, eq, ne}
+use Rattle.table.proofs.Facts.{fails}
 use Rattle.table.proofs.is_of.Statement.{statement}
 use Rattle.table.proofs.is_of.Tie as tie
 
--- the last of three tests holds, or fails
+-- the last of three tests holds
 holds : (a b c : Bool) → a ≡ true → c ≡ true → b ≡ (a and b and c)
 unfolding _⇒_⁏_
 holds true true c e h = sym h
 holds true false c e h = refl
 holds false b c e h = cc
-
-fails : (a b c : Bool) → c ≡ false → false ≡ (a and b and c)
-unfolding _⇒_⁏_
-fails true true c h = sym h
-fails true false c h = refl
-fails false b c h = refl
 
 pub is-of-spec : {M : Type 1} → statement M
 unfolding _=?_

@@ -1,0 +1,103 @@
+// Which places a call looks at, what the shares hear of them, and which place it keeps or frees.
+use asks::Arrival;
+use desk::GivenUp;
+use desk::Shares;
+use paper::Name;
+use paper::limits::DESKS_MOST;
+use paper::limits::OWN_PLACES;
+use paper::limits::PLACES_EACH;
+use table::Seen;
+use unit::Reading;
+ghost use mathlib.Core.Path.{_≡_};
+ghost use Rattle.memory.specs.Relay.{desksOf};
+ghost use Rattle.looks.specs.Looks.{reachOf, reachFor, askedOf, beyondOf, commonSeen, sharesSeen, Bounded, spotOf, freedAt};
+
+// How many of the places that are lent are the desks'; none where their number is improper.
+pub fn reach(marks: &[u32], who: Name, len: usize) -> usize
+    ensures { λ r. ⌜ r ≡ reachOf (desksOf (now (marks .entry))) len ⌝ }
+{
+    let n = gate::desks_of(marks);
+    if DESKS_MOST < n {
+        return 0;
+    }
+    octets::least(PLACES_EACH * n, len)
+}
+
+// The same where the unit names a sample, and else none.
+pub fn reach_for(marks: &[u32], who: Name, len: usize, r: Reading) -> usize
+    ensures { λ m. ⌜ m ≡ reachFor (desksOf (now (marks .entry))) len (r .unit) ⌝ }
+{
+    if asks::has_place(r) {
+        return reach(marks, who, len);
+    }
+    0
+}
+
+pub fn asked(at: usize, m: usize) -> usize
+    ensures { λ r. ⌜ r ≡ askedOf at m ⌝ }
+{
+    if at < m {
+        return 0;
+    }
+    m
+}
+
+pub fn beyond(opens: usize, m: usize) -> usize
+    ensures { λ r. ⌜ r ≡ beyondOf opens m ⌝ }
+{
+    if opens < OWN_PLACES {
+        return 0;
+    }
+    m
+}
+
+pub fn spot(at: usize, low: usize, m: usize, len: usize, x: Arrival) -> usize
+    ensures { λ r. ⌜ r ≡ spotOf at low m len (x .part .total) ⌝ }
+{
+    let w = x.part;
+    if at < m {
+        return at;
+    }
+    if low < m {
+        if 1 < w.total {
+            return low;
+        }
+    }
+    len
+}
+
+fn common_use(each: [usize; DESKS_MOST], n: usize) -> usize
+    requires { ⌜ Bounded each ⌝ }
+    ensures { λ r. ⌜ r ≡ commonSeen each n ⌝ }
+{
+    let k = octets::least(n, DESKS_MOST);
+    let mut common = 0;
+    let mut e = 0;
+    while e < k {
+        common += octets::less(each[e], OWN_PLACES);
+        e += 1;
+    }
+    common
+}
+
+pub fn shares(opens: usize, seen: Seen, marks: &[u32], who: Name) -> Shares
+    requires { ⌜ Bounded (seen .opens) ⌝ }
+    ensures { λ r. ⌜ r ≡ sharesSeen opens (seen .opens) (desksOf (now (marks .entry))) ⌝ }
+{
+    let n = gate::desks_of(marks);
+    let each = seen.opens;
+    Shares {
+        opens,
+        common: common_use(each, n),
+        desks: n,
+    }
+}
+
+pub fn freed_at(g: GivenUp, at: usize, len: usize) -> usize
+    ensures { λ r. ⌜ r ≡ freedAt g at len ⌝ }
+{
+    match g {
+        GivenUp::Freed => at,
+        GivenUp::Refused(_) => len,
+    }
+}

@@ -1,9 +1,0 @@
--- `steps::asked` meets its contract. Assumes nothing.
-use Rattle.laws.specs.Rows.{rows}
-use Rattle.steps.specs.Plan.{askedOf}
-use Rattle.steps.proofs.asked.Statement.{statement}
-use Rattle.steps.proofs.asked.Tie as tie
-
-pub asked-spec : {M : Type 1} → statement M
-unfolding askedOf
-asked-spec = tie.close (tie.spec (λ c. search rows) (λ c. search rows))

@@ -1,9 +1,0 @@
--- `steps::shares` meets its contract. Assumes nothing.
-use borrow.Author.Needs.{needs}
-use Rattle.steps.proofs.shares.Statement.{statement}
-use Rattle.steps.proofs.shares.Tie as tie
-
-pub shares-spec : {M : Type 1} → statement M
-shares-spec =
-    tie.close
-    (tie.spec (λ c κs. search needs) (λ c κs. search needs) (λ c. rw (c .common-use .ensures, c .before .before .desks-of .ensures)))
