@@ -29,7 +29,8 @@ cleared h kinds starts lens bytes e a b c d = rw (e, a, b, c, d)
 
 -- ---- a part that is kept in q
 module _ (s : Own) (time used next : ℕ) (q : Place) (m : ℕ) (k : m ≡ missing q) where
-  pub kept-some : 0 < m → (r : Turn) → r ≡ answering q used next (O.Kept m) → left r (s .row) (s .marks) (s .store) (s .out) ≡ completed s time used next q
+  pub kept-some : 0 < m → (r : Turn) → r ≡ answering q used next (O.Kept m) → left r (s .row) (s .marks) (s .store) (s .out)
+      ≡ completed s time used next q
   unfolding completed
   kept-some h r e = yes _ _ (lt _ _ (omega arith)) (rw (e, k))
 

@@ -51,8 +51,10 @@ module _ (h : Shares) (s : Own) (time used next : ℕ) (q : Place) (x : P.Part) 
 
         module _ (f₄ : b₄ ≡ false) (b₅ : Bool) (l₅ : b₅ ≡ six (s .place) h) where
           module _ (f₅ : b₅ ≡ false) (b₆ : Bool) (l₆ : b₆ ≡ usedUp (s .place) h) where
-            pub join-kept : b₆ ≡ false → (p : Place) → p ≡ kept q x d → (a : After) → a ≡ completed s time used next p → a ≡ joining h s time used next q x d
+            pub join-kept : b₆ ≡ false → (p : Place) → p ≡ kept q x d → (a : After) → a ≡ completed s time used next p
+                → a ≡ joining h s time used next q x d
             unfolding joining
             join-kept t p k a e =
                 no _ _ (sym l₁ ∙ f₁)
-                (no _ _ (sym l₂ ∙ f₂) (no _ _ (sym l₃ ∙ f₃) (no _ _ (sym l₄ ∙ f₄) (no _ _ (sym l₅ ∙ f₅) (no _ _ (sym l₆ ∙ t) (rw (e, k)))))))
+                (no _ _ (sym l₂ ∙ f₂)
+                (no _ _ (sym l₃ ∙ f₃) (no _ _ (sym l₄ ∙ f₄) (no _ _ (sym l₅ ∙ f₅) (no _ _ (sym l₆ ∙ t) (rw (e, k)))))))

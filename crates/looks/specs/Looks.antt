@@ -31,8 +31,12 @@ beyondOf opens m = opens <? ownPlaces ⇒ 0 ⁏ m
 abbrev pub commonSeen : (each : List ℕ) → (n : ℕ) → ℕ
 commonSeen each n = sum (min n desksMost) (λ (e : ℕ). getD each e 0 - ownPlaces)
 
+-- a desk that has fewer than two open hears nothing of the others
+unfoldable pub commonHeard : (opens : ℕ) → (each : List ℕ) → (n : ℕ) → ℕ
+commonHeard opens each n = opens <? ownPlaces ⇒ 0 ⁏ commonSeen each n
+
 abbrev pub sharesSeen : (opens : ℕ) → (each : List ℕ) → (n : ℕ) → Shares
-sharesSeen opens each n = record { opens = opens; common = commonSeen each n; desks = n }
+sharesSeen opens each n = record { opens = opens; common = commonHeard opens each n; desks = n }
 
 -- no desk has more open samples than there can be places
 abbrev pub Bounded : (each : List ℕ) → Type 0

@@ -10,7 +10,8 @@ use table::Seen;
 use unit::Reading;
 ghost use mathlib.Core.Path.{_≡_};
 ghost use Rattle.memory.specs.Relay.{desksOf};
-ghost use Rattle.looks.specs.Looks.{reachOf, reachFor, askedOf, beyondOf, commonSeen, sharesSeen, Bounded, spotOf, freedAt};
+ghost use Rattle.looks.specs.Looks.{reachOf, reachFor, askedOf, beyondOf, commonSeen, commonHeard, sharesSeen, Bounded};
+ghost use Rattle.looks.specs.Looks.{spotOf, freedAt};
 
 // How many of the places that are lent are the desks'; none where their number is improper.
 pub fn reach(marks: &[u32], who: Name, len: usize) -> usize
@@ -80,6 +81,16 @@ fn common_use(each: [usize; DESKS_MOST], n: usize) -> usize
     common
 }
 
+fn common_heard(opens: usize, each: [usize; DESKS_MOST], n: usize) -> usize
+    requires { ⌜ Bounded each ⌝ }
+    ensures { λ r. ⌜ r ≡ commonHeard opens each n ⌝ }
+{
+    if opens < OWN_PLACES {
+        return 0;
+    }
+    common_use(each, n)
+}
+
 pub fn shares(opens: usize, seen: Seen, marks: &[u32], who: Name) -> Shares
     requires { ⌜ Bounded (seen .opens) ⌝ }
     ensures { λ r. ⌜ r ≡ sharesSeen opens (seen .opens) (desksOf (now (marks .entry))) ⌝ }
@@ -88,7 +99,7 @@ pub fn shares(opens: usize, seen: Seen, marks: &[u32], who: Name) -> Shares
     let each = seen.opens;
     Shares {
         opens,
-        common: common_use(each, n),
+        common: common_heard(opens, each, n),
         desks: n,
     }
 }

@@ -17,7 +17,7 @@ ghost use Rattle.unit.specs.Layout.{readOf};
 ghost use Rattle.desk.specs.Desk.{isPart};
 ghost use Rattle.memory.specs.Relay.{lookedUp};
 ghost use Rattle.memory.specs.Lent.{lent, lentThree, SetsUp, Receives, GivesUp};
-ghost use Rattle.steps.specs.Back.{JoinsAt};
+ghost use Rattle.steps.specs.Kept.{JoinsAt};
 
 // Makes what n desks need fresh, or refuses and writes nothing.
 pub fn set_up(

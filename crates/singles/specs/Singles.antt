@@ -20,7 +20,8 @@ use Rattle.style.specs.Store.{moved, improper, noted}
 use Rattle.style.specs.Store as S
 
 -- ---- TYPE 1
-module _ (s : Own) (time used next : ℕ) (w : W.Whole) (d : List ℕ) (n : next ≡ later time (w .sdur)) (b : Bool) (l : b ≡ isLate s time) where
+module _ (s : Own) (time used next : ℕ) (w : W.Whole) (d : List ℕ) (n : next ≡ later time (w .sdur)) (b : Bool)
+    (l : b ≡ isLate s time) where
   pub whole-late : b ≡ true → (r : Answer) → r ≡ says used next (O.Refused R.Late)
       → left (turn (s .place) r) (s .row) (s .marks) (s .store) (s .out) ≡ wholeTaken s time used w d
   unfolding wholeTaken
@@ -61,7 +62,8 @@ newest-fits store newest sidx d h =
     Fit : S.After → Type 0
     Fit a = a .answer .newest < 4294967296
 
-pub description-taken : (s : Own) (time used : ℕ) (w : D.Description) (d : List ℕ) (newest : ℕ) → newest ≡ newestOf (s .marks) → newest < 4294967296
+pub description-taken : (s : Own) (time used : ℕ) (w : D.Description) (d : List ℕ) (newest : ℕ) → newest ≡ newestOf (s .marks)
+    → newest < 4294967296
     → (n : Noted) (store : List ℕ) → S.left n store ≡ noted (s .store) newest (w .sidx) d
     → (marks : List ℕ) → marks ≡ set (s .marks) 1 (n .newest % 4294967296) → (r : Answer) → r ≡ says used time (n .outcome)
     → left (turn (s .place) r) (s .row) marks store (s .out) ≡ descriptionTaken s time used w d

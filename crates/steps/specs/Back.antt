@@ -1,337 +1,49 @@
 -- The act of a call as the code carries it out: what it found in the table, what the desk made of it, and the place where that goes.
 -- Assumes nothing.
-use Prim.Native.Nat.{ℕ, _+_, _-_, _*_, _≤_, _<_, min}
+use Prim.Native.Nat.{ℕ, _+_, _*_, _≤_, _<_}
 use native.Mathlib.Omega.{arith}
 use mathlib.Core.Path.{_≡_, refl, sym, ap, subst, _∙_}
 use mathlib.Core.Bool.{Bool, true, false, not, true≢false}
 use mathlib.Core.List.{List, [], _++_}
-use denote.Ref.{now}
-use lib.ListN.{length, getD, set, take, drop, length-take, List·getD-eq-default, take-append-drop}
-use lib.Seq.{set-out, set-getD, getD-take, length-take-le, set-append-left}
-use Rattle.laws.specs.Rows.{_⇒_⁏_, _or_, _and_, _<?_, each, below, yes, no, lt, ge, lt-of, ge-of, and-of, or-none}
+use lib.ListN.{length, set, take, drop, length-take, List·getD-eq-default, take-append-drop}
+use lib.Seq.{set-getD}
+use Rattle.laws.specs.Rows.{_⇒_⁏_, _or_, _and_, _<?_, each, below, yes, no, lt, ge, lt-of, and-of, or-none}
 use Rattle.laws.specs.Region.{splice, splice-part}
-use Rattle.laws.specs.Table.{seek, count, seek-hit}
-use Rattle.laws.specs.Sums.{sum-same}
-use Rattle.laws.specs.Lists.{getD-enumerated}
-use Rattle.paper.specs.Limits.{finishedMost, headSize, marksEach, storeSize, desksMost, ownPlaces, partsMost, places}
+use Rattle.laws.specs.Table.{seek, count}
+use Rattle.paper.specs.Limits.{finishedMost, headSize, marksEach, storeSize, desksMost, places}
 use Rattle.paper.specs.declared.Answer.{Answer}
 use Rattle.paper.specs.declared.Name.{Name}
 use Rattle.paper.specs.declared.Refusal.{Refusal}
 use Rattle.paper.specs.declared.Refusal.the-variants as R
 use Rattle.paper.specs.declared.Outcome.the-variants as O
-use Rattle.unit.specs.declared.Part as P
 use Rattle.unit.specs.declared.Unit.{Unit}
 use Rattle.unit.specs.declared.Unit.the-variants as U
 use Rattle.unit.specs.declared.Reading.{Reading}
 use Rattle.unit.specs.Layout.{readOf, dataOf}
 use Rattle.unit.specs.Reads.{Counts, Counted, reads-counted}
 use Rattle.sample.specs.declared.Place.{Place}
-use Rattle.sample.specs.Place.{bare, closed, opened, oversize, kept, missing}
-use Rattle.sample.specs.Made.{opened-made}
-use Rattle.sample.specs.Kept.{opened-has}
-use Rattle.sample.specs.Missing.{keep-missing}
+use Rattle.sample.specs.Place.{bare, closed, kept}
 use Rattle.desk.specs.declared.Shares.{Shares}
 use Rattle.desk.specs.declared.GivenUp.{GivenUp}
 use Rattle.desk.specs.declared.GivenUp.the-variants as G
-use Rattle.desk.specs.Desk.{Own, After, Given, own, says, stay, refuse, finish, isPart, six, usedUp, sampleOf, completed, joining, partTaken, descriptionTaken, taken, received, givenUp}
-use Rattle.desk.specs.Effects.{asksPart, unheard-part}
+use Rattle.desk.specs.Desk.{Own, After, Given, own, says, stay, refuse, finish, isPart, partTaken, descriptionTaken, taken, received}
+use Rattle.desk.specs.Desk.{givenUp}
 use Rattle.asks.specs.declared.Arrival.{Arrival}
 use Rattle.asks.specs.Settled.{openIn, laid, hasPlace, partOf, arrivalOf, unasked, passed}
 use Rattle.table.specs.Table.{seen, stored, holds}
 use Rattle.settle.specs.Settles.{received-any as any-received}
-use Rattle.table.specs.Turn.{opens-le}
 use Rattle.memory.specs.Table.{vacant, mine, isAt}
-use Rattle.memory.specs.Relay.{Tables, tables, desksOf, placesOf, rowOf, marksOf, storeOf, commonUse, sharesOf, openAt, ownOf, standsAt, placed, putBack}
-use Rattle.memory.specs.Relay.{stranger, lacking, lacksThree, Done, done, ordered, settled, receivedAmong, receivedAt, Released, released, yielded, returned, givenUpAmong, givenUpAt}
+use Rattle.memory.specs.Relay.{Tables, tables, desksOf, placesOf, rowOf, marksOf, storeOf, sharesOf, openAt, ownOf, placed, stranger}
+use Rattle.memory.specs.Relay.{lacking, lacksThree, Done, done, ordered, settled, receivedAmong, receivedAt, Released, released, yielded}
+use Rattle.memory.specs.Relay.{returned, givenUpAmong, givenUpAt}
 use Rattle.memory.specs.Back.{placed-open, put-same}
-use Rattle.memory.specs.Lent.{Slice, Lent}
-use Rattle.looks.specs.Looks.{reachOf, reachFor, askedOf, beyondOf, commonSeen, sharesSeen, Bounded, spotOf}
-use Rattle.steps.specs.Plan.{gated, Plan, plan, planOf, ownAt, partPlanned, laidPlan, passPlanned}
-use Rattle.steps.specs.Plan.{Yield, yield, yielding, placeAfter}
-use Rattle.looks.specs.Looks.{freedAt}
+use Rattle.looks.specs.Looks.{reachOf, reachFor, askedOf, beyondOf, sharesSeen, spotOf, freedAt}
+use Rattle.steps.specs.Plan.{gated, Plan, plan, planOf, ownAt, partPlanned, passPlanned, Yield, yield, yielding, placeAfter}
 use Rattle.gate.specs.Tests.{proper, three-long, all-long}
-
--- ---- a part, kept at place i; at none where i is past the end
-abbrev pub beforeAt : (i : ℕ) → List Place → Place
-beforeAt i l = getD l i closed
-
-abbrev pub keptPlan : (i : ℕ) → Shares → Tables → Name → Arrival → (rest out : List ℕ) → Plan
-keptPlan i h s who x rest out =
-    partPlanned (length (s .places)) h (openIn (beforeAt i (s .places))) (s .rows) (s .marks) (s .stores) out who x rest
-
-abbrev pub keptDone : (i : ℕ) → Tables → Plan → Done
-keptDone i s x =
-    done (tables (set (s .places) i (laid (beforeAt i (s .places)) (x .place))) (x .rows) (x .marks) (x .stores)) (x .out) (x .answer)
-
-abbrev pub joinedAt : (i : ℕ) → Shares → Tables → Name → Arrival → (rest out : List ℕ) → Done
-joinedAt i h s who x rest out = keptDone i s (keptPlan i h s who x rest out)
-
--- what a call with the part leaves and answers, with stores of a length that was told, whatever they hold
-abbrev pub JoinsAt : (i : ℕ) → Shares → (List ℕ → Lent) → (storeLen : ℕ) → Name → Arrival → (rest out : Slice ℕ) → Answer → Type 0
-JoinsAt i h l storeLen who x rest out r =
-    (stores : List ℕ) → length stores ≡ storeLen
-    → done (l stores .exit) (now (out .exit)) r ≡ joinedAt i h (l stores .entry) who x (now (rest .entry)) (now (out .entry))
-
--- past the end there is no sample, and none is kept
-pub open-none : openIn closed ≡ closed
-unfolding openIn bare
-open-none = sym (no _ closed refl refl)
-
--- `len` places are lent; p is what the step left at place i
-pub kept-done : (i len : ℕ) (h : Shares) (s : Tables) (who : Name) (x : Arrival) (rest out : List ℕ) → len ≡ length (s .places)
-    → (p : Place) (a : Answer) (rows marks out′ : List ℕ)
-    → plan p a rows marks (s .stores) out′
-    ≡ laidPlan (beforeAt i (s .places)) (partPlanned len h (openIn (beforeAt i (s .places))) (s .rows) (s .marks) (s .stores) out who x rest)
-    → done (tables (set (s .places) i p) rows marks (s .stores)) out′ a ≡ joinedAt i h s who x rest out
-kept-done i len h s who x rest out l p a rows marks out′ e =
-    ap (λ (z : Plan). done (tables (set (s .places) i (z .place)) (z .rows) (z .marks) (z .stores)) (z .out) (z .answer)) e
-    ∙ ap (λ (k : ℕ). keptDone i s (partPlanned k h (openIn (beforeAt i (s .places))) (s .rows) (s .marks) (s .stores) out who x rest)) l
-
--- past the end no sample is found, and none is kept
-pub lost-done : (i len : ℕ) (h : Shares) (s : Tables) (who : Name) (x : Arrival) (rest out : List ℕ) → len ≡ length (s .places) → len ≤ i
-    → (a : Answer) (rows marks out′ : List ℕ)
-    → plan (partPlanned len h closed (s .rows) (s .marks) (s .stores) out who x rest .place) a rows marks (s .stores) out′
-    ≡ partPlanned len h closed (s .rows) (s .marks) (s .stores) out who x rest
-    → done (tables (s .places) rows marks (s .stores)) out′ a ≡ joinedAt i h s who x rest out
-lost-done i len h s who x rest out l k a rows marks out′ e =
-    let none : beforeAt i (s .places) ≡ closed = List·getD-eq-default (s .places) closed (omega arith) in
-    let q : openIn (beforeAt i (s .places)) ≡ closed = ap openIn none ∙ open-none in
-    ap (λ (z : Plan). done (tables (s .places) (z .rows) (z .marks) (z .stores)) (z .out) (z .answer)) e
-    ∙ ap (λ (t : List Place).
-    let z = partPlanned len h closed (s .rows) (s .marks) (s .stores) out who x rest in done (tables t (z .rows) (z .marks) (z .stores)) (z .out) (z .answer))
-    (sym (set-out (s .places) i _ (omega arith)))
-    ∙ ap (λ (y : Place). keptDone i s (partPlanned len h y (s .rows) (s .marks) (s .stores) out who x rest)) (sym q)
-    ∙ ap (λ (n : ℕ). keptDone i s (partPlanned n h (openIn (beforeAt i (s .places))) (s .rows) (s .marks) (s .stores) out who x rest)) l
-
--- in a place that nothing was made of, nothing changes
-pub laid-same : (before : Place) → laid before (openIn before) ≡ before
-unfolding laid openIn bare _⇒_⁏_
-laid-same before = go (before .used) refl
-  where
-    go : (b : Bool) → before .used ≡ b → (b ⇒ (b ⇒ before ⁏ closed) ⁏ (b ⇒ before ⁏ closed) .used ⇒ (b ⇒ before ⁏ closed) ⁏ before) ≡ before
-    go true e = refl
-    go false e = refl
-
--- ---- the table
-reach-all : (n len : ℕ) → n ≤ desksMost → places n ≤ len → reachOf n len ≡ places n
-unfolding reachOf
-reach-all n len h k = let q : min (places n) len ≡ places n = omega arith in sym (no _ _ (ge _ _ h) (sym q))
-
-pub reach-most : (n len : ℕ) → reachOf n len ≤ len
-unfolding reachOf
-reach-most n len = each (λ (m : ℕ). m ≤ len) _ _ _ (λ e. omega arith) (λ e. omega arith)
-
--- where there are m places, a store among them leaves what lies beyond
-set-front : (m i : ℕ) (p : Place) (l : List Place) → m ≤ length l → i < m → set l i p ≡ set (take m l) i p ++ drop m l
-set-front m i p l k h =
-    ap (λ (x : List Place). set x i p) (sym (take-append-drop m l))
-    ∙ set-append-left (take m l) (drop m l) i p (omega (arith, length-take-le m l k))
-
-set-none : (m i : ℕ) (p : Place) (l : List Place) → m ≤ length l → m ≤ i → l ≡ set (take m l) i p ++ drop m l
-set-none m i p l k h =
-    sym (ap (λ (x : List Place). x ++ drop m l) (set-out (take m l) i p (omega (arith, length-take-le m l k))) ∙ take-append-drop m l)
-
-module _ (desk time m : ℕ) (l : List Place) (fits : m ≤ length l) where
-  abbrev at : ℕ
-  at = seek (isAt desk time) (take m l)
-
-  abbrev low : ℕ
-  low = seek vacant (take m l)
-
-  long : length (take m l) ≡ m
-  long = length-take-le m l fits
-
-  -- the sample that was found, or none
-  abbrev pub found : Place
-  found = getD (take m l) at closed
-
-  pub found-used : found .used ≡ (at <? m)
-  unfolding bare
-  found-used = go (at <? m) refl
-    where
-      go : (b : Bool) → (at <? m) ≡ b → found .used ≡ b
-      go true e = and-of _ _ (seek-hit (isAt desk time) (take m l) closed (omega (arith, lt-of _ _ e, long))) .0
-      go false e = ap (λ (y : Place). y .used) (List·getD-eq-default (take m l) closed (omega (arith, ge-of _ _ e, long)))
-
-  found-holds : found .used ≡ holds (isAt desk time) (take m l)
-  found-holds = found-used ∙ ap (λ (k : ℕ). at <? k) (sym long)
-
-  -- where it stands
-  stands-found : at < m → (p : Place) → standsAt desk time p (take m l) ≡ at
-  unfolding standsAt
-  stands-found h p = sym (yes _ _ (lt _ _ (omega (arith, long))) refl)
-
-  stands-new : m ≤ at → (p : Place) → standsAt desk time p (take m l) ≡ (p .used ⇒ low ⁏ m)
-  unfolding standsAt
-  stands-new h p = sym (no _ _ (ge _ _ (omega (arith, long))) (ap (λ (k : ℕ). p .used ⇒ low ⁏ k) (sym long)))
-
-  -- p, laid where the part was kept, is where the definition puts it
-  abbrev spot : (total : ℕ) → ℕ
-  spot total = spotOf at low m (length l) total
-
-  abbrev Goes : (i : ℕ) → Place → Type 0
-  Goes i p = set l i (laid (beforeAt i l) p) ≡ placed desk time p (take m l) ++ drop m l
-
-  before-found : at < m → beforeAt at l ≡ found
-  before-found h = sym (getD-take m l at closed h)
-
-  goes-found : at < m → (p : Place) → Goes at p
-  unfolding laid
-  goes-found h p =
-      let u : beforeAt at l .used ≡ true = ap (λ (y : Place). y .used) (before-found h) ∙ found-used ∙ lt _ _ h in
-      ap (set l at) (sym (yes _ _ u refl)) ∙ set-front m at p l fits h ∙ ap (λ (i : ℕ). set (take m l) i p ++ drop m l) (sym (stands-found h p))
-
-  before-low : low < m → beforeAt low l .used ≡ false
-  before-low h =
-      let e = seek-hit vacant (take m l) closed (omega (arith, long)) in
-      ap (λ (y : Place). y .used) (sym (getD-take m l low closed h)) ∙ free _ e
-    where
-      free : (b : Bool) → not b ≡ true → b ≡ false
-      free true e = sym e
-      free false e = refl
-
-  goes-new : m ≤ at → low < m → (p : Place) → Goes low p
-  unfolding laid _⇒_⁏_
-  goes-new h k p =
-      ap (λ (b : Bool). set l low (b ⇒ p ⁏ p .used ⇒ p ⁏ beforeAt low l)) (before-low k)
-      ∙ go (p .used) ∙ ap (λ (i : ℕ). set (take m l) i p ++ drop m l) (sym (stands-new h p))
-    where
-      go : (b : Bool) → set l low (b ⇒ p ⁏ beforeAt low l) ≡ set (take m l) (b ⇒ low ⁏ m) p ++ drop m l
-      go true = set-front m low p l fits k
-      go false = set-getD l low closed ∙ set-none m m p l fits (omega arith)
-
-  -- where it is kept in none, it is not to be kept, or there is none
-  goes-none : m ≤ at → (p : Place) → (p .used ≡ true → m ≤ low) → Goes (length l) p
-  unfolding _⇒_⁏_
-  goes-none h p k =
-      set-out l (length l) _ (omega arith) ∙ go (p .used) k ∙ ap (λ (i : ℕ). set (take m l) i p ++ drop m l) (sym (stands-new h p))
-    where
-      go : (b : Bool) → (b ≡ true → m ≤ low) → l ≡ set (take m l) (b ⇒ low ⁏ m) p ++ drop m l
-      go true k = set-none m low p l fits (k refl)
-      go false k = set-none m m p l fits (omega arith)
-
-  goes : (total : ℕ) (p : Place) → (total ≤ 1 → m ≤ at → p .used ≡ false) → Goes (spot total) p
-  unfolding spotOf _⇒_⁏_
-  goes total p lone =
-      each (λ (i : ℕ). Goes i p) _ _ _ (λ e. goes-found (lt-of _ _ e) p)
-      (λ e. new (ge-of _ _ e) (low <? m) refl (1 <? total) refl)
-    where
-      new : m ≤ at → (a : Bool) → (low <? m) ≡ a → (b : Bool) → (1 <? total) ≡ b → Goes ((a and b) ⇒ low ⁏ length l) p
-      new h true e true f = goes-new h (lt-of _ _ e) p
-      new h true e false f = goes-none h p (λ u. absurd (true≢false (sym u ∙ lone (ge-of _ _ f) h)))
-      new h false e b f = goes-none h p (λ u. ge-of _ _ e)
-
-  -- the sample that the part is shown at the place where it is kept
-  open-spot : (total : ℕ) → openIn (beforeAt (spot total) l) ≡ found
-  unfolding spotOf openIn
-  open-spot total =
-      each (λ (i : ℕ). openIn (beforeAt i l) ≡ found) _ _ _
-      (λ e.
-      let h = lt-of _ _ e in
-      let u : beforeAt at l .used ≡ true = ap (λ (y : Place). y .used) (before-found h) ∙ found-used ∙ e in
-      sym (yes _ _ u refl) ∙ before-found h)
-      (λ e. each (λ (i : ℕ). openIn (beforeAt i l) ≡ found) _ _ _
-      (λ f. sym (no _ _ (before-low (lt-of _ _ (and-of _ _ f .0))) refl) ∙ sym (none (ge-of _ _ e)))
-      (λ f. ap openIn (List·getD-eq-default l closed (omega arith)) ∙ open-none ∙ sym (none (ge-of _ _ e))))
-    where
-      none : m ≤ at → found ≡ closed
-      none h = List·getD-eq-default (take m l) closed (omega (arith, long))
-
--- no desk has more open samples than there are places
-pub bounded-seen : (n len e : ℕ) (l : List Place) → e ≤ reachOf n len → Bounded (seen (take e l) .opens)
-unfolding reachOf
-bounded-seen n len e l h d =
-    let most : reachOf n len ≤ places desksMost =
-    each (λ (m : ℕ). m ≤ places desksMost) _ _ _ (λ f. omega arith) (λ f. omega (arith, ge-of _ _ f)) in
-    omega (arith, opens-le (take e l) d, length-take e l)
-
-pub beyond-most : (opens at m : ℕ) → beyondOf opens (askedOf at m) ≤ m
-unfolding beyondOf askedOf
-beyond-most opens at m =
-    each (λ (k : ℕ). k ≤ m) _ _ _ (λ f. omega arith) (λ f. each (λ (k : ℕ). k ≤ m) _ _ _ (λ g. omega arith) (λ g. omega arith))
-
--- ---- the shares: what is counted is what the definition counts, where the desk hears it
-common-seen : (n : ℕ) (l : List Place) → n ≤ desksMost → commonSeen (seen l .opens) n ≡ commonUse n l
-common-seen n l h =
-    let q : min n desksMost ≡ n = omega arith in
-    rw q
-    (sum-same n (λ (e : ℕ). getD (seen l .opens) e 0 - ownPlaces) (λ (e : ℕ). count (mine e) l - ownPlaces)
-    (λ e k. ap (λ (c : ℕ). c - ownPlaces) (getD-enumerated desksMost (λ (e : ℕ). count (mine e) l) e 0 (omega arith))))
-
--- an open sample asks for no share
-unasked-any : (h h′ : Shares) (s : Own) (time used next : ℕ) (q : Place) (x : P.Part) (d : List ℕ) → s .place .used ≡ true
-    → joining h s time used next q x d ≡ joining h′ s time used next q x d
-unfolding joining six usedUp _⇒_⁏_
-unasked-any h h′ s time used next q x d u = rw u
-
-module _ (n desk time m : ℕ) (l : List Place) (fits : m ≤ length l) (few : n ≤ desksMost) where
-  abbrev asked : ℕ
-  asked = askedOf (at desk time m l fits) m
-
-  abbrev opens : ℕ
-  opens = count (mine desk) (take asked l)
-
-  abbrev heard : Shares
-  heard = sharesSeen opens (seen (take (beyondOf opens asked) l) .opens) n
-
-  same-shares : (s : Own) (used next : ℕ) (q : Place) (x : P.Part) (d : List ℕ) → s .place .used ≡ (at desk time m l fits <? m)
-      → joining heard s time used next q x d ≡ joining (sharesOf n desk (take m l)) s time used next q x d
-  unfolding askedOf beyondOf
-  same-shares s used next q x d u = go (at desk time m l fits <? m) refl
-    where
-      Same : ℕ → Type 0
-      Same k =
-          joining (sharesSeen (count (mine desk) (take k l)) (seen (take (count (mine desk) (take k l) <? ownPlaces ⇒ 0 ⁏ k) l) .opens) n) s time used next q x d
-          ≡ joining (sharesOf n desk (take m l)) s time used next q x d
-
-      new : Same m
-      new =
-          each (λ (k : ℕ). joining (sharesSeen (count (mine desk) (take m l)) (seen (take k l) .opens) n) s time used next q x d
-          ≡ joining (sharesOf n desk (take m l)) s time used next q x d) _ _ _
-          (λ e. unheard-part _ _ s time used next q x d refl (λ a. lt-of _ _ e))
-          (λ e. ap (λ (c : ℕ). joining (record { opens = count (mine desk) (take m l); common = c; desks = n }) s time used next q x d) (common-seen n (take m l) few))
-
-      go : (b : Bool) → (at desk time m l fits <? m) ≡ b → Same (b ⇒ 0 ⁏ m)
-      go b e = each Same b 0 m (λ f. unasked-any _ _ s time used next q x d (u ∙ e ∙ f)) (λ f. new)
-
--- ---- a sample of one part is never kept
-unopened : (desk time : ℕ) (x : P.Part) → x .total ≤ 1 → missing (opened desk time x) ≤ 1
-unfolding missing bare
-unopened desk time x one = omega arith
-
-part-none : (h : Shares) (s : Own) (desk time used : ℕ) (x : P.Part) (d : List ℕ) → s .place ≡ closed → Counts x → x .total ≤ 1
-    → partTaken h s desk time used x d .own .place .used ≡ false
-unfolding joining completed sampleOf bare
-part-none h s desk time used x d c k one =
-    each None _ _ _ (λ e. none)
-    (λ e. each None _ _ _ (λ e. none)
-    (λ e. each None _ _ _ (λ e. none)
-    (λ e. each None _ _ _ (λ e. none)
-    (λ f. each None _ _ _ (λ e. none)
-    (λ e. each None _ _ _ (λ e. none)
-    (λ e. each None _ _ _ (λ e. absurd (omega (arith, lt-of _ _ e, complete f))) (λ e. each None _ _ _ (λ e. refl) (λ e. refl))))))))
-  where
-    None : After → Type 0
-    None a = a .own .place .used ≡ false
-
-    none : s .place .used ≡ false
-    none = ap (λ (y : Place). y .used) c
-
-    q : Place
-    q = s .place .used ⇒ s .place ⁏ opened desk time x
-
-    is-new : q ≡ opened desk time x
-    is-new = sym (no _ _ none refl)
-
-    complete : oversize q x (length d) ≡ false → missing (kept q x d) ≤ 0
-    complete f =
-        rw is-new
-        (omega (
-          arith,
-          keep-missing (opened desk time x) (opened-made desk time x (k .most)) x d
-              (record { from = k .from; to = k .to; new = opened-has desk time x (x .this); fits = rw is-new at f }),
-          unopened desk time x one,
-        ))
+use Rattle.steps.specs.Kept.{beforeAt, joinedAt, laid-same}
+use Rattle.steps.specs.Found.{reach-all, reach-most, set-front, at, found, found-used, found-holds, stands-found, before-found}
+use Rattle.steps.specs.Found.{goes, open-spot}
+use Rattle.steps.specs.Heard.{same-shares, part-none}
 
 -- ---- receive
 module _ (s : Tables) (who : Name) where
@@ -386,12 +98,14 @@ module _ (s : Tables) (who : Name) where
         go (U.Whole w) e k = absurd (true≢false (sym e))
         go (U.Description w) e k = absurd (true≢false (sym e))
 
-    received-part : (h : Shares) (o : Own) → partTaken h o (who .desk) (who .time) (x .used) (x .part) bytes ≡ received h o (who .desk) (who .time) rest
+    received-part : (h : Shares) (o : Own) → partTaken h o (who .desk) (who .time) (x .used) (x .part) bytes
+        ≡ received h o (who .desk) (who .time) rest
     unfolding received
     received-part h o = go (r .unit) refl is-part ∙ ap (λ (z : Reading). taken h o (who .desk) (who .time) (z .used) rest (z .unit)) read
       where
         go : (u : Unit) → r .unit ≡ u → isPart u ≡ true
-            → partTaken h o (who .desk) (who .time) (r .used) (partOf u) (dataOf rest (U.Part (partOf u))) ≡ taken h o (who .desk) (who .time) (r .used) rest u
+            → partTaken h o (who .desk) (who .time) (r .used) (partOf u) (dataOf rest (U.Part (partOf u)))
+            ≡ taken h o (who .desk) (who .time) (r .used) rest u
         go (U.Part w) q e = refl
         go U.End q e = absurd (true≢false (sym e))
         go (U.Skipped t) q e = absurd (true≢false (sym e))
@@ -405,7 +119,8 @@ module _ (s : Tables) (who : Name) where
     abbrev hears : Shares
     hears =
         sharesSeen (count (mine (who .desk)) (take (askedOf (seek (isAt (who .desk) (who .time)) (take m (s .places))) m) (s .places)))
-        (seen (take (beyondOf (count (mine (who .desk)) (take (askedOf (seek (isAt (who .desk) (who .time)) (take m (s .places))) m) (s .places)))
+        (seen (take (beyondOf
+        (count (mine (who .desk)) (take (askedOf (seek (isAt (who .desk) (who .time)) (take m (s .places))) m) (s .places)))
         (askedOf (seek (isAt (who .desk) (who .time)) (take m (s .places))) m)) (s .places)) .opens) n
 
     abbrev spotAt : ℕ
@@ -414,14 +129,18 @@ module _ (s : Tables) (who : Name) where
         (seek vacant (take (askedOf (seek (isAt (who .desk) (who .time)) (take m (s .places))) m) (s .places))) m len (x .part .total)
 
     -- where the sample was found, the free places were not looked at
-    spot-is : spotAt ≡ spotOf (seek (isAt (who .desk) (who .time)) (take m (s .places))) (seek vacant (take m (s .places))) m len (x .part .total)
+    spot-is : spotAt ≡ spotOf (seek (isAt (who .desk) (who .time)) (take m (s .places))) (seek vacant (take m (s .places))) m len
+        (x .part .total)
     unfolding spotOf askedOf
     spot-is = go (seek (isAt (who .desk) (who .time)) (take m (s .places))) (x .part .total)
       where
         go : (a t : ℕ)
-            → (a <? m ⇒ a ⁏ seek vacant (take (a <? m ⇒ 0 ⁏ m) (s .places)) <? m and 1 <? t ⇒ seek vacant (take (a <? m ⇒ 0 ⁏ m) (s .places)) ⁏ len)
+            → (a <? m ⇒ a ⁏ seek vacant (take (a <? m ⇒ 0 ⁏ m) (s .places)) <? m and 1 <? t ⇒ seek vacant
+            (take (a <? m ⇒ 0 ⁏ m) (s .places)) ⁏ len)
             ≡ (a <? m ⇒ a ⁏ seek vacant (take m (s .places)) <? m and 1 <? t ⇒ seek vacant (take m (s .places)) ⁏ len)
-        go a t = below _ _ _ _ (λ e. ap (λ (k : ℕ). seek vacant (take k (s .places)) <? m and 1 <? t ⇒ seek vacant (take k (s .places)) ⁏ len) (sym (no _ _ e refl)))
+        go a t = below _ _ _ _
+            (λ e. ap (λ (k : ℕ). seek vacant (take k (s .places)) <? m and 1 <? t ⇒ seek vacant (take k (s .places)) ⁏ len)
+            (sym (no _ _ e refl)))
 
     -- a free place is taken only by a part that does not end its sample
     pub spot-opens : spotAt < len → beforeAt spotAt (s .places) .used ≡ false → 1 < x .part .total
@@ -437,12 +156,14 @@ module _ (s : Tables) (who : Name) where
         Opens : ℕ → Type 0
         Opens i = i < len → beforeAt i (s .places) .used ≡ false → 1 < x .part .total
 
-        go : (b : Bool) → (a <? m) ≡ b → Opens (a <? m ⇒ a ⁏ low-at (a <? m ⇒ 0 ⁏ m) <? m and 1 <? x .part .total ⇒ low-at (a <? m ⇒ 0 ⁏ m) ⁏ len)
+        go : (b : Bool) → (a <? m) ≡ b
+            → Opens (a <? m ⇒ a ⁏ low-at (a <? m ⇒ 0 ⁏ m) <? m and 1 <? x .part .total ⇒ low-at (a <? m ⇒ 0 ⁏ m) ⁏ len)
         go b e =
             each Opens (a <? m) _ _
             (λ f k u.
             let v = before-found (who .desk) (who .time) m (s .places) (reach-most n len) (lt-of _ _ f) in
-            absurd (true≢false (sym f ∙ sym (found-used (who .desk) (who .time) m (s .places) (reach-most n len)) ∙ sym (ap (λ (y : Place). y .used) v) ∙ u)))
+            absurd (true≢false (sym f ∙ sym (found-used (who .desk) (who .time) m (s .places) (reach-most n len))
+            ∙ sym (ap (λ (y : Place). y .used) v) ∙ u)))
             (λ f. each Opens _ _ _ (λ g k u. lt-of _ _ (and-of _ _ g .1)) (λ g k u. absurd (omega (arith, k))))
 
     pub joined-is : joinedAt spotAt hears s who x rest out ≡ receivedAt s who rest out
@@ -509,8 +230,10 @@ module _ (s : Tables) (who : Name) where
             let none : openAt (who .desk) (who .time) (take m (s .places)) ≡ closed =
             List·getD-eq-default (take m (s .places)) closed (omega (arith, length-take m (s .places))) in
             each (λ (y : After). y .own .place .used ≡ false) small _ _ (λ f. ap (λ (q : Place). q .used) none)
-            (λ f. subst (λ (y : After). y .own .place .used ≡ false) (received-part (sharesOf n (who .desk) (take m (s .places))) (own-at m))
-            (part-none (sharesOf n (who .desk) (take m (s .places))) (own-at m) (who .desk) (who .time) (x .used) (x .part) bytes none counts t))
+            (λ f. subst (λ (y : After). y .own .place .used ≡ false)
+            (received-part (sharesOf n (who .desk) (take m (s .places))) (own-at m))
+            (part-none (sharesOf n (who .desk) (take m (s .places))) (own-at m) (who .desk) (who .time) (x .used)
+            (x .part) bytes none counts t))
 
         kept-is : n ≤ desksMost → kept-at (made false small) ≡ outcome m
         kept-is few =
@@ -628,7 +351,8 @@ module _ (s : Tables) (who : Name) where
         kept-to : plan it a rows marks stores out′ ≡ planned it
         kept-to = e it (found-holds (who .desk) (who .time) k (s .places) fits)
 
-        go : (b : Bool) → one ≡ b → (c : Bool) → hasPlace (r .unit) ≡ c → done (tables (s .places) rows marks stores) out′ a ≡ receivedAt s who rest out
+        go : (b : Bool) → one ≡ b → (c : Bool) → hasPlace (r .unit) ≡ c → done (tables (s .places) rows marks stores) out′ a
+            ≡ receivedAt s who rest out
         go true f c g =
             left-is a rows marks stores out′ (openAt (who .desk) (who .time) (placesOf n s)) refl
             (unlooked (ap (λ (b : Bool). b or not (hasPlace (r .unit))) f) a rows marks stores out′ it _ kept-to)
@@ -711,7 +435,11 @@ module _ (s : Tables) (who : Name) where
       stayed q w =
           held w
           ∙ ap (λ (k : ℕ). returned n s (who .desk) (who .time)
-          (record { own = hers (openAt (who .desk) (who .time) (take k (s .places))) (storeOf (who .desk) (s .stores)); answer = G.Refused w })) (sym q)
+          (record {
+            own = hers (openAt (who .desk) (who .time) (take k (s .places)))
+                (storeOf (who .desk) (s .stores));
+            answer = G.Refused w;
+          })) (sym q)
 
       case-of : reach ≡ places n → (b : Bool) → it .used ≡ b
           → let-go (settles b it []) ≡ returned n s (who .desk) (who .time) (settles b it (storeOf (who .desk) (s .stores)))
@@ -722,10 +450,14 @@ module _ (s : Tables) (who : Name) where
           ≡ returned n s (who .desk) (who .time) (givenUp (ownOf n s (who .desk) (who .time) []) (who .time))
       through few enough =
           let q = reach-all n len few enough in
-          let same-it : it ≡ openAt (who .desk) (who .time) (placesOf n s) = ap (λ (k : ℕ). openAt (who .desk) (who .time) (take k (s .places))) q in
-          case-of q (it .used) refl ∙ ap (λ (p : Place). returned n s (who .desk) (who .time) (givenUp (hers p (storeOf (who .desk) (s .stores))) (who .time))) same-it
+          let same-it : it ≡ openAt (who .desk) (who .time) (placesOf n s) = ap
+          (λ (k : ℕ). openAt (who .desk) (who .time) (take k (s .places))) q in
+          case-of q (it .used) refl
+          ∙ ap (λ (p : Place). returned n s (who .desk) (who .time) (givenUp (hers p (storeOf (who .desk) (s .stores))) (who .time)))
+          same-it
 
-      go : (b : Bool) → lack ≡ b → let-go (gives b it []) ≡ returned n s (who .desk) (who .time) (gives b (openAt (who .desk) (who .time) (placesOf n s)) (storeOf (who .desk) (s .stores)))
+      go : (b : Bool) → lack ≡ b → let-go (gives b it [])
+          ≡ returned n s (who .desk) (who .time) (gives b (openAt (who .desk) (who .time) (placesOf n s)) (storeOf (who .desk) (s .stores)))
       go true f = same it R.Desk ∙ held R.Desk
       go false f =
           let a = or-none _ _ f in

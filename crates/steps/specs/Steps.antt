@@ -26,6 +26,7 @@ use Rattle.memory.specs.Relay.{desksOf, rowOf, marksOf, storeOf, stranger, lack
 use Rattle.gate.specs.declared.Gate.{Gate}
 use Rattle.gate.specs.declared.Gate.the-variants.{Through, Shut}
 use Rattle.gate.specs.Gate.{gateOf}
+use Rattle.steps.specs.Kept.{laid-same}
 use Rattle.steps.specs.Plan.{gated, Plan, plan, planOf, ownAt, settledPlan, partOfRest, partPlanned, laidPlan, passPlanned}
 use Rattle.steps.specs.Plan.{yield, yieldOf, yielding, placeAfter}
 use Rattle.gate.specs.Tests.{either, other, shut, clear}
@@ -115,21 +116,12 @@ module _ (table : ℕ) (h : Shares) (before : Place) (rows marks stores out : Li
 
   module _ (f : g ≡ gateOf (desksOf marks) table (length rows) (length marks) (length stores) (who .desk) (length out)) where
     -- over a place that is free or the sample's: a shut gate leaves it
-    laid-same : laid before (openIn before) ≡ before
-    unfolding laid openIn bare _⇒_⁏_
-    laid-same = go (before .used) refl
-      where
-        go : (b : Bool) → before .used ≡ b
-            → (b ⇒ (b ⇒ before ⁏ closed) ⁏ (b ⇒ before ⁏ closed) .used ⇒ (b ⇒ before ⁏ closed) ⁏ before) ≡ before
-        go true e = refl
-        go false e = refl
-
     pub step-shut : (why : Refusal) → g ≡ Shut why → (r : Answer) → r ≡ says 0 (who .time) (O.Refused why)
         → plan before r rows marks stores out ≡ laidPlan before (partPlanned table h (openIn before) rows marks stores out who x rest)
     unfolding partPlanned
     step-shut why k r e =
         rw e
-        (ap (λ (q : Place). plan q (says 0 (who .time) (O.Refused why)) rows marks stores out) (sym laid-same)
+        (ap (λ (q : Place). plan q (says 0 (who .time) (O.Refused why)) rows marks stores out) (sym (laid-same before))
         ∙ ap (laidPlan before) (plan-shut table (openIn before) rows marks stores out who takes g f why k))
 
     pub step-through : g ≡ Through → (p : Place) (r : Answer) (row′ marks′ out′ d : List ℕ) → d ≡ partOfRest x rest

@@ -6,4 +6,4 @@ use Rattle.looks.proofs.shares.Tie as tie
 pub shares-spec : {M : Type 1} → statement M
 shares-spec =
     tie.close
-    (tie.spec (λ c κs. search needs) (λ c κs. search needs) (λ c. rw (c .common-use .ensures, c .before .before .desks-of .ensures)))
+    (tie.spec (λ c κs. search needs) (λ c κs. search needs) (λ c. rw (c .common-heard .ensures, c .before .before .desks-of .ensures)))

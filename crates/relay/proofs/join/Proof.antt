@@ -68,7 +68,9 @@ use Rattle.table.specs.Table.{seen}
 use Rattle.table.proofs.Seen as S
 use Rattle.table.proofs.Seen.Laws as S′
 use Rattle.looks.specs.Looks.{reachOf, askedOf, beyondOf, sharesSeen, spotOf}
-use Rattle.steps.specs.Back.{joinedAt, bounded-seen, beyond-most, spot-opens, joined-is}
+use Rattle.steps.specs.Kept.{joinedAt}
+use Rattle.steps.specs.Found.{bounded-seen, beyond-most}
+use Rattle.steps.specs.Back.{spot-opens, joined-is}
 use Rattle.table.proofs.Calls.{KnowsLen, KnowsFind, KnowsCount, KnowsScan, KnowsLowest, knows-len, knows-find, knows-count, knows-scan, knows-lowest}
 use Rattle.table.proofs.Calls.{calls-len, calls-find, calls-count, calls-scan, calls-lowest}
 use Rattle.relay.proofs.Calls.{KnowsReach, KnowsAsked, KnowsBeyond, KnowsSharesOf, KnowsArrived, KnowsSpotOf, knows-reach, knows-asked, knows-beyond, knows-shares, knows-arrived, knows-spot}

@@ -59,7 +59,7 @@ use Rattle.asks.proofs.Arrival as Ar
 use Rattle.asks.proofs.Arrival.Laws as Ar′
 use Rattle.memory.specs.Relay.{tables as lent-tables, done as leaves}
 use Rattle.steps.specs.Plan.{plan, partPlanned}
-use Rattle.steps.specs.Back.{joinedAt, lost-done}
+use Rattle.steps.specs.Kept.{joinedAt, lost-done}
 use Rattle.steps.proofs.step_lost as lost′
 use Rattle.steps.proofs.step_lost.Symbol as lost′-def
 use Rattle.steps.proofs.step_lost.Symbol.{name as #lost′}

@@ -78,7 +78,7 @@ use Rattle.memory.specs.Relay.{tables as lent-tables, done as leaves}
 use Rattle.table.specs.Table.{headed}
 use Rattle.table.proofs.Calls.{KnowsHead, KnowsSetHead, knows-head, knows-set-head, calls-head, calls-set-head}
 use Rattle.steps.specs.Plan.{plan, partPlanned, laidPlan}
-use Rattle.steps.specs.Back.{joinedAt, kept-done}
+use Rattle.steps.specs.Kept.{joinedAt, kept-done}
 use Rattle.steps.proofs.step as step′
 use Rattle.steps.proofs.step.Symbol as step′-def
 use Rattle.steps.proofs.step.Symbol.{name as #step′}
