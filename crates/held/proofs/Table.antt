@@ -1,21 +1,28 @@
--- The table that is held by value: its type, its machine value, and that its places have room. Assumes nothing.
-use mathlib.Core.List.{List}
+-- The table that is held by value, the answers that hold it, and that its places have room. Assumes nothing.
+use mathlib.Core.Path.{refl}
 use lib.Dec.{lit<}
-use mir.Val.{Val}
-use denote.RattleType.{RattleType}
-use denote.Array.{Array, array-vals}
 use denote.Slice.{Room}
-use denote.Steps.{only}
-use denote.Struct.Laws as LL
-use Rattle.sample.specs.declared.Place.{Place}
+use Rattle.walks.proofs.Handed.{Data, struct, array}
 use Rattle.sample.proofs.Place as P
-use Rattle.sample.proofs.Place.Laws as P′
+use Rattle.relay.proofs.Values.{place}
+use Rattle.held.proofs.Begun as B
+use Rattle.held.proofs.Begun.Laws as B′
+use Rattle.held.proofs.Called as C
+use Rattle.held.proofs.Called.Laws as C′
+use Rattle.held.proofs.Yielded as Y
+use Rattle.held.proofs.Yielded.Laws as Y′
 
-abbrev pub Table : RattleType
-Table = Array P.the-row 32
+abbrev pub table : Data
+table = array place 32 (λ x w. refl)
 
-abbrev pub tabVal : List Place → Val
-tabVal xs = only (array-vals (LL.vals P.the-type P′.the-laws) xs)
+abbrev pub begun-row : Data
+begun-row = struct B.the-type B′.the-laws B′.the-plain (λ x w. refl)
+
+abbrev pub called-row : Data
+called-row = struct C.the-type C′.the-laws C′.the-plain (λ x w. refl)
+
+abbrev pub yielded-row : Data
+yielded-row = struct Y.the-type Y′.the-laws Y′.the-plain (λ x w. refl)
 
 pub room32 : Room P.the-row 32
 room32 = (lit< tt, lit< tt)

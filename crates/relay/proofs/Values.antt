@@ -1,0 +1,28 @@
+-- The types of the values that the relay's calls take and answer. Assumes nothing.
+use mathlib.Core.Path.{refl}
+use Rattle.walks.proofs.Handed.{Data, struct, choice}
+use Rattle.sample.proofs.Place as P
+use Rattle.sample.proofs.Place.Laws as P′
+use Rattle.paper.proofs.Name as Q
+use Rattle.paper.proofs.Name.Laws as Q′
+use Rattle.paper.proofs.Answer as N
+use Rattle.paper.proofs.Answer.Laws as N′
+use Rattle.memory.proofs.Started as S
+use Rattle.memory.proofs.Started.Laws as S′
+use Rattle.desk.proofs.GivenUp as G
+use Rattle.desk.proofs.GivenUp.Laws as G′
+
+abbrev pub place : Data
+place = struct P.the-type P′.the-laws P′.the-plain (λ x w. refl)
+
+abbrev pub name : Data
+name = struct Q.the-type Q′.the-laws Q′.the-plain (λ x w. refl)
+
+abbrev pub answer : Data
+answer = struct N.the-type N′.the-laws N′.the-plain (λ x w. refl)
+
+abbrev pub started : Data
+started = choice S.the-type S′.the-laws S′.the-plain tt (λ x w. refl)
+
+abbrev pub given-up : Data
+given-up = choice G.the-type G′.the-laws G′.the-plain tt (λ x w. refl)
