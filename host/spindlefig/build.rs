@@ -1,4 +1,4 @@
-//! Finds the proved library, `libexport.a`, and links it.
+//! Finds the proved library, `libexport.a`, and links it: the repository's, or the one in the folder that `SPINDLEFIG_LIB` names.
 
 use std::env;
 use std::path::{Path, PathBuf};
@@ -16,7 +16,7 @@ fn library_folder() -> PathBuf {
 fn main() {
     println!("cargo:rerun-if-env-changed=SPINDLEFIG_LIB");
     let target = env::var("CARGO_CFG_TARGET_ARCH").expect("cargo names the target");
-    if target != "x86_64" {
+    if target != "x86_64" && env::var_os("SPINDLEFIG_LIB").is_none() {
         panic!("the relay's library is compiled for x86-64 only, and the target is {target}");
     }
     let folder = library_folder();
