@@ -116,7 +116,7 @@ unfolding code.routine tablesOf
 spindlefig-give-up-spec 𝓤 H 𝓜 𝓖 𝓡 =
     proved-by 𝓤 H 𝓜 𝓖 𝓡 code.env (Mine 𝓤 H (𝓖 .A) (𝓜 .mem) (𝓡 .run)) #export·spindlefig-give-up code.function (code.unfolded 𝓤 H 𝓜 𝓡)
     (tt, λ κs b. refl)
-    (λ κs qs _ a _. walk 𝓤 H (𝓖 .A) (𝓜 .mem) (𝓡 .run) (givenOf 𝓤 H 𝓜 𝓖) (tablesOf 𝓤 H 𝓜 (tables 𝓤 H 𝓜 𝓡 code.env))
+    (λ κs a qs _ _. walk 𝓤 H (𝓖 .A) (𝓜 .mem) (𝓡 .run) (givenOf 𝓤 H 𝓜 𝓖) (tablesOf 𝓤 H 𝓜 (tables 𝓤 H 𝓜 𝓡 code.env))
     (cited 𝓤 H (contractOf 𝓤 H (𝓖 .A) (Pack 𝓤 H (𝓖 .A) (𝓜 .mem) (𝓡 .run))) 𝓜 𝓡 code.env #pack′ pack′-def.routine
     code.calls-export·name-of (pack′-thm.met 𝓤 H 𝓜 𝓖 𝓡))
     (cited 𝓤 H (contractOf 𝓤 H (𝓖 .A) (Main 𝓤 H (𝓖 .A) (𝓜 .mem) (𝓡 .run))) 𝓜 𝓡 code.env #main′ main′-def.routine
