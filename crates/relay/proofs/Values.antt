@@ -15,6 +15,8 @@ use Rattle.desk.proofs.Shares as H
 use Rattle.desk.proofs.Shares.Laws as H′
 use Rattle.asks.proofs.Arrival as A
 use Rattle.asks.proofs.Arrival.Laws as A′
+use Rattle.unit.proofs.Reading as R
+use Rattle.unit.proofs.Reading.Laws as R′
 
 abbrev pub place : Data
 place = struct P.the-type P′.the-laws P′.the-plain (λ x w. refl)
@@ -36,3 +38,6 @@ share = struct H.the-type H′.the-laws H′.the-plain (λ x w. refl)
 
 abbrev pub arrival : Data
 arrival = struct A.the-type A′.the-laws A′.the-plain (λ x w. refl)
+
+abbrev pub reading : Data
+reading = struct R.the-type R′.the-laws R′.the-plain (λ x w. refl)

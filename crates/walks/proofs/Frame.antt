@@ -1,20 +1,20 @@
 -- The locals of a function as ONE entry of the context, the frame: a walk names a local by its number in MIR, and what is lent and owned
 -- stands beside the frame in a short context. They say nothing of a crate.
 --     Held, locals E hs    what each local of the environment E has: room, a value, or nothing (its cell is out). A list hs that is
---     shorter than E says that the rest have room
---     held, with-held      what local k has; the list with another thing there.        envOf ls b     the environment of the locals ls,
---     where local k has the block `b k`
+--                          shorter than E says that the rest have room
+--     held, with-held      what local k has; the list with another thing there
+--     envOf ls b           the environment of the locals ls, where local k has the block `b k`
 --     reads, reads-all     entry n is the frame: an operand, and each of a list of operands, has the value that the frame says, or is a
---     constant
+--                          constant
 --     looks-at, within     local k is read; its cell is within the frame, for `Types/Part.antt`'s `sub`
 --     sets, lands-in       [the frame; …]: a value is written to local k by an assignment, or by a call that has returned
---     counts               [the frame; …]: the length of a slice of the frame is written to local a: `_a = t.1`
+--     counts               [the frame; …]: the length of a slice of the frame is written to local a, `_a = t.1`
+--     reborrows, borrows   [the frame; …]: a slice of the frame, or an array of it, is made ready to be passed:
+--                          `_a = &(*t.0); _c = { _a, t.1 }`, and `_a = &_k; _c = { _a, n }`
 --     goes-on              the last statement of an arm, with what runs after the arm
---     reborrows, borrows   [the frame; …]: a slice of the frame, or an array of it, is made ready to be passed: `_a = &(*t.0); _c = { _a,
---     t.1 }`, and `_a = &_k; _c = { _a, n }`
 --     takes, puts          [the frame; …] to [the cell of local k; the frame without it; …], and back
---     enters-frame, leaves-frame     a function is entered: [the frame, with its arguments; …].        It returns, and its locals are
---     freed: […]
+--     enters-frame         a function is entered: [the frame, with its arguments; …]
+--     leaves-frame         it returns, and its locals are freed: […]
 -- Assumes `Given`.
 use mathlib.Core.Path.{_≡_, refl, sym, ap, subst}
 use Prim.Native.Nat.{ℕ, zero, suc, _+_, _<_, _^_}

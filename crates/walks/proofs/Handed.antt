@@ -1,28 +1,26 @@
 -- A function whose parameters are slices that are lent to it and values, and whose result is a value: its entry, its calls and its end.
 -- They say nothing of a crate.
 --     Data             a type that owns only facts, with one machine value: `number w`, `truth`, `none`, `struct`, `choice` (an enum),
---     `array`
+--                      `array`
 --     Param n          a parameter: `gives j` a `&'j mut [R]` that is handed on for good, `keeps j` one that is still owned at the end,
---     `shares j` a `&'j [R]`, `value D`
+--                      `shares j` a `&'j [R]`, `value D`
 --     Lending          a contract over such parameters: the lifetimes, their bounds, the parameters, the result, and the function's own
---     clauses.        contractOf     its triple
---     tokens, lents, told, left-of     as entries: the tokens of the lifetimes; the slices lent; what says each last list; what is had of
---     the parameters at the end
---     Known, Long      what is known of the values that are passed; that each last list is as long as the list passed.        leading
---     the first of the lifetimes
---     proved-by, proved-under     the function as the machine runs it meets its contract, where it asks nothing and where its `requires`
---     says a fact, from a walk that begins at `Begins`: [the frame; the
---     tokens; the slices lent] (`Frame.antt`)
---     calls-lent       a call: the entries at the positions π are the frame, the callee's tokens and what it is lent; after it, [the frame
---     with the result; the tokens; what says each last list; the rest of the context],
---                      with the result's relation, what the `ensures` says, and the lengths.        calls-known     the same, where the
---                      `ensures` says which value the result is
---     leaves           the function returns: the entries at π are the frame, its tokens and what it has of its parameters, and the promise
---     is shown of the result and the last lists
+--                      clauses.        contractOf     its triple
+--     tokens, lents    as entries: the tokens of the lifetimes; the slices lent
+--     told, left-of    as entries: what says each last list; what is had of the parameters at the end
+--     Known, Long      what is known of the values that are passed; that each last list is as long as the list passed
+--     leading          the first of the lifetimes
+--     proved-by        the function as the machine runs it meets its contract, from a walk that begins at `Begins`:
+--                      [the frame; the tokens; the slices lent] (`Frame.antt`).        proved-under     its `requires` says a fact
+--     calls-lent       a call: the entries at the positions π are the frame, the callee's tokens and what it is lent. After it stand
+--                      [the frame with the result; the tokens; what says each last list; the rest of the context], and there are the
+--                      result's relation, what the `ensures` says, and the lengths
+--     calls-known      the same, where the `ensures` says which value the result is
+--     leaves           the function returns: the entries at π are the frame, its tokens and what it has of its parameters, and the
+--                      promise is shown of the result and the last lists
 --     lends-local      [the frame; …], where local k has an array, to [the frame without it; [ν]; the `&ν mut [T]`; the lender's part; …]
 --     local-back       [[ν]; the last list; the lender's part; the frame; …] to [the frame, with the last list in local k; …]
---     slice-home       [[ν]; the last list; the lender's part; …] to [own (γ, zs); [κ]_q; …]: a slice that `Rows.antt`'s `lent-mut` lent
---     again
+--     slice-home       [[ν]; the last list; the lender's part; …] to [own (γ, zs); [κ]_q; …], of a slice that `lent-mut` lent again
 --     doubles          [own of a `&[R]`; …] to [the same twice; …]
 --     typed-as         a value of a `Data` is of a local's type
 -- Assumes `Given`.
@@ -82,7 +80,8 @@ use denote.Triple.Walked.{goes-gave-slice, walkOf, ends-at, walked, walk-meets}
 use Rattle.walks.proofs.Rows.{Ref, LentAgain, back-mut}
 use Rattle.walks.proofs.Lent.{LentOut, lent-array, back-array}
 use Rattle.walks.proofs.Frame.{Held, holds, away, Cell, takes, puts, held, with-held, has, ready, there, all-there, locals, envOf}
-use Rattle.walks.proofs.Frame.{valued, room, at, begins, some-local, after-first, opds, reads-all, lands-in, enters-frame, leaves-frame}
+use Rattle.walks.proofs.Frame.{valued, room, at, begins, some-local, after-first, opds, reads-all}
+use Rattle.walks.proofs.Frame.{lands-in, enters-frame, leaves-frame}
 
 -- ---- a type that owns only facts, with one machine value: a number, a bool, a struct or an enum of such, an array
 pub record Data : Type 2 where

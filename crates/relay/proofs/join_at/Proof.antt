@@ -150,7 +150,8 @@ module _ {M : Type 1} (𝓤 : URA M) (H : Heap 𝓤) (A : Atoms 𝓤) (mem : Mem
     abbrev Left-is : Answer → (places′ : List Place) (rows′ marks′ out′ : List ℕ) → Type 0
     Left-is r places′ rows′ marks′ out′ =
         (stores : List ℕ) → length stores ≡ held
-        → done-of (lent-tables places′ rows′ marks′ stores) out′ r ≡ joinedAt i h (lent-tables (now places) rows marks stores) who x rest out
+        → done-of (lent-tables places′ rows′ marks′ stores) out′ r
+        ≡ joinedAt i h (lent-tables (now places) rows marks stores) who x rest out
 
     lost-at : T (not (ltb i len)) → (r : Answer) (rows′ marks′ out′ : List ℕ) → Lost r rows′ marks′ out′
         → Left-is r (now places) rows′ marks′ out′
@@ -191,7 +192,8 @@ module _ {M : Type 1} (𝓤 : URA M) (H : Heap 𝓤) (A : Atoms 𝓤) (mem : Mem
         move ! (1 ∷ 6 ∷ 10 ∷ []) $ slice-home ! tt P.the-row (κs .0) ν (qs .0) (named-as places) δ (ptr places .0) (ptr places .1)
         (now places) (ws .0) (slice-vals places) (long .0) $
         move ! (2 ∷ []) $ sets ! (of-opd ! (reads ! 0 refl refl)) tt (typed-as W answer _ r _ refl is-r) $
-        leaves ! (Mine 𝓤 H A mem run) κs qs tt a vs tt r ws is-r long (factI 𝓤 _ (emp 𝓤) e) (0 ∷ 2 ∷ 3 ∷ 4 ∷ 5 ∷ 6 ∷ 1 ∷ 7 ∷ 8 ∷ 9 ∷ []) refl
+        leaves ! (Mine 𝓤 H A mem run) κs qs tt a vs tt r ws is-r long (factI 𝓤 _ (emp 𝓤) e)
+        (0 ∷ 2 ∷ 3 ∷ 4 ∷ 5 ∷ 6 ∷ 1 ∷ 7 ∷ 8 ∷ 9 ∷ []) refl
         refl tt)))
         -- past the end
         (λ over.
