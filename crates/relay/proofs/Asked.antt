@@ -1,5 +1,5 @@
--- What the relay asks on its way: for each callee that is shown a slice a `Look` (`walks` Shown), and for the others a `Lending`; and the
--- types of the values that they take and answer, beside those in `Values.antt`. Assumes nothing.
+-- What the relay asks on its way: for each callee that is shown a slice a `Look` (`walks` Shown), and for the others a `Lending`.
+-- Assumes nothing.
 use mathlib.Core.Path.{refl}
 use mathlib.Core.List.{[], _∷_}
 use lib.ListN.{length, take}
@@ -16,12 +16,6 @@ use Rattle.walks.proofs.Handed.{Data, Lending, struct, number, truth, value}
 use Rattle.walks.proofs.Shown.{Look}
 use Rattle.laws.specs.Table.{seek, count}
 use Rattle.sample.proofs.Place as P
-use Rattle.unit.proofs.Reading as Rd
-use Rattle.unit.proofs.Reading.Laws as Rd′
-use Rattle.asks.proofs.Arrival as Ar
-use Rattle.asks.proofs.Arrival.Laws as Ar′
-use Rattle.desk.proofs.Shares as Sh
-use Rattle.desk.proofs.Shares.Laws as Sh′
 use Rattle.table.proofs.Seen as S
 use Rattle.table.proofs.Seen.Laws as S′
 use Rattle.memory.specs.Table.{vacant, isAt}
@@ -40,17 +34,9 @@ use Rattle.looks.proofs.shares as shares
 use Rattle.looks.proofs.asked as asked
 use Rattle.looks.proofs.beyond as beyond
 use Rattle.looks.proofs.spot as spot
+use Rattle.looks.proofs.freed_at as freed-at
 use Rattle.asks.proofs.arrived as arrived
-use Rattle.relay.proofs.Values.{name}
-
-abbrev pub reading : Data
-reading = struct Rd.the-type Rd′.the-laws Rd′.the-plain (λ x w. refl)
-
-abbrev pub arrival : Data
-arrival = struct Ar.the-type Ar′.the-laws Ar′.the-plain (λ x w. refl)
-
-abbrev pub shared : Data
-shared = struct Sh.the-type Sh′.the-laws Sh′.the-plain (λ x w. refl)
+use Rattle.relay.proofs.Values.{name, given-up, share, arrival, reading}
 
 abbrev pub sight : Data
 sight = struct S.the-type S′.the-laws S′.the-plain (λ x w. refl)
@@ -175,7 +161,7 @@ module _ {M : Type 1} (𝓤 : URA M) (H : Heap 𝓤) (A : Atoms 𝓤) (mem : Mem
     before = number w64 ∷ sight ∷ [];
     of = u32;
     after = name ∷ [];
-    result = shared;
+    result = share;
     clauses = shares.clauses 𝓤 H A mem run;
     asks = λ bs ys cs. Bounded (bs .1 .0 .opens);
     answer = λ bs ys cs. sharesSeen (bs .0) (bs .1 .0 .opens) (desksOf ys);
@@ -219,4 +205,13 @@ module _ {M : Type 1} (𝓤 : URA M) (H : Heap 𝓤) (A : Atoms 𝓤) (mem : Mem
     params = value (number w64) ∷ value (number w64) ∷ value (number w64) ∷ value (number w64) ∷ value arrival ∷ [];
     result = number w64;
     clauses = spot.clauses 𝓤 H A mem run;
+  }
+
+  abbrev pub FreedAt : Lending 𝓤
+  FreedAt = record {
+    lifetimes = 0;
+    bounds = [];
+    params = value given-up ∷ value (number w64) ∷ value (number w64) ∷ [];
+    result = number w64;
+    clauses = freed-at.clauses 𝓤 H A mem run;
   }

@@ -17,7 +17,7 @@ use contract.Monad.{Fun, factI}
 use contract.Running.{givenOf, tables, tablesOf}
 use types.Kit.{Given, _$_, !, move}
 use types.Run.{of-opd}
-use sound.WpLaws.{fmOf}
+use sound.WpLaws.{FmC, fmOf}
 use denote.Laws.{Is, shows}
 use denote.Builtin.{u32}
 use denote.Plain.{nothing-lawful}
@@ -30,7 +30,8 @@ use denote.Triple.Table.{cited}
 use Rattle.walks.proofs.Rows.{Ref, kept-long}
 use Rattle.walks.proofs.Frame.{reads, reads-all, sets, lands-in, reborrows}
 use Rattle.walks.proofs.Handed.{Lending, number, gives, keeps, value, contractOf, valued-of, Fitting, Begins, typed-as, calls-lent, leaves}
-use Rattle.walks.proofs.Handed.{proved-by}
+use Rattle.walks.proofs.Handed.{calls-known, proved-by}
+use Rattle.walks.proofs.Shown.{calls-shown}
 use Rattle.laws.specs.Rows.{_<?_}
 use Rattle.laws.specs.Table.{seek}
 use Rattle.paper.specs.declared.Name.{Name}
@@ -39,7 +40,7 @@ use Rattle.sample.specs.Place.{closed}
 use Rattle.sample.proofs.Place as P
 use Rattle.desk.specs.declared.GivenUp.{GivenUp}
 use Rattle.table.specs.Table.{stored}
-use Rattle.table.proofs.Calls.{KnowsLen, KnowsFind, KnowsFree, knows-len, knows-find, knows-free, calls-len, calls-find, calls-free}
+use Rattle.table.proofs.Calls.{KnowsLen, KnowsFind, KnowsFree, knows-len, knows-find, knows-free, calls-free}
 use Rattle.memory.specs.Table.{isAt}
 use Rattle.memory.specs.Relay.{desksOf, tables as lent-tables}
 use Rattle.looks.specs.Looks.{reachOf, freedAt}
@@ -49,7 +50,8 @@ use Rattle.steps.proofs.yield_step as yield′
 use Rattle.steps.proofs.yield_step.Symbol as yield′-def
 use Rattle.steps.proofs.yield_step.Symbol.{name as #yield′}
 use Rattle.steps.proofs.yield_step.Met as yield′-thm
-use Rattle.relay.proofs.Calls.{KnowsReach, KnowsFreedAt, knows-reach, knows-freed-at, calls-reach, calls-freed-at}
+use Rattle.relay.proofs.Calls.{KnowsReach, KnowsFreedAt, knows-reach, knows-freed-at}
+use Rattle.relay.proofs.Asked.{Len, Find, Reach, FreedAt}
 use Rattle.relay.proofs.give_up.Key.{name as #relay·give-up}
 use Rattle.relay.proofs.give_up as me
 use Rattle.relay.proofs.give_up.Statement as stated
@@ -111,39 +113,33 @@ module _ {M : Type 1} (𝓤 : URA M) (H : Heap 𝓤) (A : Atoms 𝓤) (mem : Mem
     Yielded g rows′ marks′ = (p : Place) → p .used ≡ (at <? m)
         → yield (placeAfter g p) g rows′ marks′ ≡ yielding len p (now rows) (now marks) who
 
+    abbrev fm : FmC 𝓤 H (W .laws) (𝓣 .C)
+    fm = fmOf 𝓤 H (W .laws) 𝓣
+
     walk : Begins 𝓤 H A Mine W 𝓣 code.function κs qs tt a tt b
     walk =
         -- [the frame; the tokens; the places, the rows, the marks]
-        reborrows ! (are .0 .0 .1 .0) refl tt $
-        -- `table::len`
-        move ! (4 ∷ 1 ∷ 0 ∷ []) $ calls-len ! mem run (fmOf 𝓤 H (W .laws) 𝓣) known-len (κs .0) (qs .0) (named-as places) (ptr places .0)
-        (ptr places .1)
-        (now places) (λ ν δ. reads-all ! 2 refl refl) (λ is-len. move ! (2 ∷ []) $ lands-in ! tt
-        (typed-as W (number w64) _ len _ refl is-len) $
-        reborrows ! (are .1 .1 .0 .0 .1 .0) refl tt $
-        -- `looks::reach`
-        move ! (6 ∷ 4 ∷ 0 ∷ []) $ calls-reach ! mem run (fmOf 𝓤 H (W .laws) 𝓣) known-reach (κs .1 .1 .0) (qs .1 .1 .0) (named-as marks)
-        (ptr marks .0)
-        (ptr marks .1) (now marks) who len (are .1 .1 .1 .0) (is-len .1) (λ ν δ. reads-all ! 2 refl refl) (λ is-m.
-        move ! (2 ∷ []) $ lands-in ! tt (typed-as W (number w64) _ m _ refl is-m) $ reborrows ! (are .0 .0 .1 .0) refl tt $
-        -- `table::find`
-        move ! (3 ∷ 4 ∷ 0 ∷ []) $ calls-find ! mem run (fmOf 𝓤 H (W .laws) 𝓣) known-find (κs .0) (qs .0) (named-as places) (ptr places .0)
-        (ptr places .1)
-        (now places) m who (is-m .1) (are .1 .1 .1 .0) (λ ν δ. reads-all ! 2 refl refl) (λ is-at.
-        move ! (2 ∷ []) $ lands-in ! tt (typed-as W (number w64) _ at _ refl is-at) $
+        reborrows ! (are .0 .0 .1 .0) refl tt $ move ! (0 ∷ 4 ∷ 1 ∷ []) $
+        calls-shown ! fm (Len 𝓤 H A mem run) known-len (κs .0) (qs .0) places tt tt tt tt tt refl tt refl (λ is-len.
+        reborrows ! (are .1 .1 .0 .0 .1 .0) refl tt $ move ! (0 ∷ 6 ∷ 4 ∷ []) $
+        calls-shown ! fm (Reach 𝓤 H A mem run) known-reach (κs .1 .1 .0) (qs .1 .1 .0) marks tt (who, (len, tt)) tt
+        (are .1 .1 .1 .0, (is-len, tt)) tt refl tt refl (λ is-m.
+        reborrows ! (are .0 .0 .1 .0) refl tt $ move ! (0 ∷ 3 ∷ 4 ∷ []) $
+        calls-shown ! fm (Find 𝓤 H A mem run) known-find (κs .0) (qs .0) places tt (m, (who, tt)) tt (is-m, (are .1 .1 .1 .0, tt)) tt
+        refl tt refl (λ is-at.
         reborrows ! (are .1 .0 .0 .1 .0) refl tt $ reborrows ! (are .1 .1 .0 .0 .1 .0) refl tt $
         -- `steps::yield_step`
-        calls-lent ! (fmOf 𝓤 H (W .laws) 𝓣) Yield known-yield (κs .1) (qs .1) tt (len, (at, (m, a .1)))
+        calls-lent ! fm Yield known-yield (κs .1) (qs .1) tt (len, (at, (m, a .1)))
         (vint w64 len ∷ [], (vint w64 at ∷ [], (vint w64 m ∷ [], vs .1))) tt (id⊢ 𝓤 _) (is-len, (is-at, (is-m, (are .1 .1 .1 .0, tt))))
         (λ g ws. Yielded g (ws .1 .1 .1 .0) (ws .1 .1 .1 .1 .0)) (λ g ws. id⊢ 𝓤 _) (0 ∷ 5 ∷ 4 ∷ 6 ∷ 3 ∷ []) refl refl tt refl
         (λ g ws is-g e long.
         -- [the frame; the tokens of the rows and the marks; what says each last list; the places and their token]
-        -- `looks::freed_at`
-        calls-freed-at ! mem run (fmOf 𝓤 H (W .laws) 𝓣) known-freed-at g at len is-g (is-at .1) (is-len .1) (reads-all ! 1 refl refl)
-        (λ is-i.
-        lands-in ! tt (typed-as W (number w64) _ (freedAt g at len) _ refl is-i) $ reborrows ! (are .0 .0 .1 .0) refl tt $
+        calls-known ! fm (FreedAt 𝓤 H A mem run) known-freed-at tt tt tt (g, (at, (len, tt)))
+        (valued-of 𝓤 H A (FreedAt 𝓤 H A mem run) tt (g, (at, (len, tt)))) tt (id⊢ 𝓤 _) (is-g, (is-at, (is-len, tt))) (freedAt g at len)
+        (λ _ _. id⊢ 𝓤 _) (0 ∷ []) refl refl tt refl (λ _ is-i _.
+        reborrows ! (are .0 .0 .1 .0) refl tt $
         -- `table::free`
-        move ! (5 ∷ 6 ∷ 0 ∷ []) $ calls-free ! mem run (fmOf 𝓤 H (W .laws) 𝓣) known-free (κs .0) (qs .0) (named-as places) (ptr places .0)
+        move ! (5 ∷ 6 ∷ 0 ∷ []) $ calls-free ! mem run fm known-free (κs .0) (qs .0) (named-as places) (ptr places .0)
         (ptr places .1)
         (now places) (now places) m (freedAt g at len) (is-m .1) (is-i .1) (λ ν δ. reads-all ! 2 refl refl) (λ r v is-r.
         move ! (2 ∷ []) $ lands-in ! tt (nothing-lawful 𝓤 H A W .typed r _ is-r .0) $

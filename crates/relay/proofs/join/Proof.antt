@@ -26,8 +26,8 @@ use denote.Triple.Entry.{Args}
 use denote.Triple.Table.{cited}
 use Rattle.walks.proofs.Frame.{reborrows, sets, within}
 use Rattle.walks.proofs.Handed.{Lending, number, gives, keeps, shares, value, contractOf, Given-in, valued-of, Fitting, Begins, calls-known}
-use Rattle.walks.proofs.Handed.{calls-lent, leaves, proved-by}
-use Rattle.walks.proofs.Shown.{calls-shown, knowing, from-asked}
+use Rattle.walks.proofs.Handed.{calls-lent, leaves, proved-under}
+use Rattle.walks.proofs.Shown.{calls-shown}
 use Rattle.laws.specs.Table.{seek, count}
 use Rattle.paper.specs.declared.Answer.{Answer}
 use Rattle.paper.specs.declared.Name.{Name}
@@ -51,9 +51,8 @@ use Rattle.table.proofs.Calls.{KnowsLen, KnowsFind, KnowsCount, KnowsScan, Know
 use Rattle.table.proofs.Calls.{knows-len, knows-find, knows-count, knows-scan, knows-lowest}
 use Rattle.relay.proofs.Calls.{KnowsReach, KnowsAsked, KnowsBeyond, KnowsSharesOf, KnowsArrived, KnowsSpotOf}
 use Rattle.relay.proofs.Calls.{knows-reach, knows-asked, knows-beyond, knows-shares, knows-arrived, knows-spot}
-use Rattle.relay.proofs.Values.{name, answer}
-use Rattle.relay.proofs.Asked.{reading, arrival, shared, Len, Find, Count, Scan, Lowest, Reach, SharesOf, Asked, Beyond, Arrived}
-use Rattle.relay.proofs.Asked.{SpotOf}
+use Rattle.relay.proofs.Values.{name, answer, share, arrival, reading}
+use Rattle.relay.proofs.Asked.{Len, Find, Count, Scan, Lowest, Reach, SharesOf, Asked, Beyond, Arrived, SpotOf}
 use Rattle.relay.proofs.join_at as last′
 use Rattle.relay.proofs.join_at.Symbol as last′-def
 use Rattle.relay.proofs.join_at.Symbol.{name as #last′}
@@ -68,8 +67,8 @@ abbrev Need : (κs : Lfts 6) → Args me.signature κs → Type 0
 Need κs a = (a .1 .1 .1 .1 .1 .0 ≡ readOf (now (a .1 .1 .1 .1 .1 .1 .0))) × (isPart (a .1 .1 .1 .1 .1 .0 .unit) ≡ true)
 
 module _ {M : Type 1} (𝓤 : URA M) (H : Heap 𝓤) (A : Atoms 𝓤) (mem : Memory → SProp 𝓤) (run : Routine → Fun 𝓤) where
-  abbrev Stated : Lending 𝓤
-  Stated = record {
+  abbrev Mine : Lending 𝓤
+  Mine = record {
     lifetimes = 6;
     bounds = [];
     params = gives 0 tt P.the-row ∷ gives 1 tt u32 ∷ gives 2 tt u32 ∷ keeps 3 tt u8 ∷ value name ∷ value reading ∷ shares 4 tt u8 ∷ gives
@@ -78,14 +77,11 @@ module _ {M : Type 1} (𝓤 : URA M) (H : Heap 𝓤) (A : Atoms 𝓤) (mem : Mem
     clauses = me.clauses 𝓤 H A mem run;
   }
 
-  abbrev Mine : Lending 𝓤
-  Mine = knowing 𝓤 Stated Need
-
   abbrev Last : Lending 𝓤
   Last = record {
     lifetimes = 5;
     bounds = [];
-    params = gives 0 tt P.the-row ∷ value (number w64) ∷ value (number w64) ∷ value shared ∷ gives 1 tt u32 ∷ gives 2 tt u32 ∷ value
+    params = gives 0 tt P.the-row ∷ value (number w64) ∷ value (number w64) ∷ value share ∷ gives 1 tt u32 ∷ gives 2 tt u32 ∷ value
         (number w64) ∷ value name ∷ value arrival ∷ shares 3 tt u8 ∷ gives 4 tt u8 ∷ [];
     result = answer;
     clauses = last′.clauses 𝓤 H A mem run;
@@ -154,7 +150,7 @@ module _ {M : Type 1} (𝓤 : URA M) (H : Heap 𝓤) (A : Atoms 𝓤) (mem : Mem
     abbrev to-last : Given-in Last κs₁
     to-last = (places, (i, (len, (h, (rows, (marks, (length (now stores), (who, (x, (rest, (out, tt)))))))))))
 
-    walk : (need : Need κs a) → Fitting 𝓤 H A Mine κs a → (b : ℕ → ℕ) → Begins 𝓤 H A Mine W 𝓣 code.function κs qs tt a (tt, need) b
+    walk : (need : Need κs a) → Fitting 𝓤 H A Mine κs a → (b : ℕ → ℕ) → Begins 𝓤 H A Mine W 𝓣 code.function κs qs tt a tt b
     walk need are b =
         -- [the frame; the tokens; the slices], and then [the frame; the slice that is looked at; its token; …]
         reborrows ! (are .0 .0 .1 .0) refl tt $ move ! (0 ∷ 7 ∷ 1 ∷ []) $
@@ -197,7 +193,7 @@ module _ {M : Type 1} (𝓤 : URA M) (H : Heap 𝓤) (A : Atoms 𝓤) (mem : Mem
         (λ a′ ws. Left-is a′ (ws .0) (ws .1 .1 .1 .1 .0) (ws .1 .1 .1 .1 .1 .0) (ws .1 .1 .1 .1 .1 .1 .1 .1 .1 .1 .0)) (λ a′ ws. id⊢ 𝓤 _)
         (0 ∷ 2 ∷ 5 ∷ 4 ∷ 7 ∷ 8 ∷ 1 ∷ 9 ∷ 3 ∷ 11 ∷ 12 ∷ []) refl refl tt refl (λ a′ ws is-a e long.
         -- [the frame; the tokens; what says each last list; the token of the stores; the stores]
-        leaves ! Mine κs qs tt a (valued-of 𝓤 H A Mine κs a) (tt, need) a′
+        leaves ! Mine κs qs tt a (valued-of 𝓤 H A Mine κs a) tt a′
         (ws .0, (ws .1 .1 .1 .1 .0, (ws .1 .1 .1 .1 .1 .0, (now stores, ws .1 .1 .1 .1 .1 .1 .1)))) is-a
         (long .0, (long .1 .0, (long .1 .1 .0, (refl, long .1 .1 .1))))
         (factI 𝓤 _ (emp 𝓤) (e (now stores) refl ∙ joined-is s who (now rest) (now out) r (need .0) (need .1)))
@@ -206,10 +202,9 @@ module _ {M : Type 1} (𝓤 : URA M) (H : Heap 𝓤) (A : Atoms 𝓤) (mem : Mem
 pub join-spec : {M : Type 1} → stated.statement M
 unfolding code.routine tablesOf
 join-spec 𝓤 H 𝓜 𝓖 𝓡 =
-    from-asked 𝓤 H (𝓖 .A) (Stated 𝓤 H (𝓖 .A) (𝓜 .mem) (𝓡 .run)) Need (λ κs a g. id⊢ 𝓤 _) (tables 𝓤 H 𝓜 𝓡 code.env .C #relay·join)
-    (proved-by 𝓤 H 𝓜 𝓖 𝓡 code.env (Mine 𝓤 H (𝓖 .A) (𝓜 .mem) (𝓡 .run)) #relay·join code.function (code.unfolded 𝓤 H 𝓜 𝓡)
-    (tt, λ κs b. refl)
-    (λ κs qs _ a g. walk 𝓤 H (𝓖 .A) (𝓜 .mem) (𝓡 .run) (givenOf 𝓤 H 𝓜 𝓖) (tablesOf 𝓤 H 𝓜 (tables 𝓤 H 𝓜 𝓡 code.env))
+    proved-under 𝓤 H 𝓜 𝓖 𝓡 code.env (Mine 𝓤 H (𝓖 .A) (𝓜 .mem) (𝓡 .run)) #relay·join code.function (code.unfolded 𝓤 H 𝓜 𝓡)
+    (tt, λ κs b. refl) Need (λ κs a g. id⊢ 𝓤 _)
+    (λ κs a need qs _ _. walk 𝓤 H (𝓖 .A) (𝓜 .mem) (𝓡 .run) (givenOf 𝓤 H 𝓜 𝓖) (tablesOf 𝓤 H 𝓜 (tables 𝓤 H 𝓜 𝓡 code.env))
     (knows-len 𝓤 H 𝓜 𝓖 𝓡 code.env code.calls-table·len) (knows-reach 𝓤 H 𝓜 𝓖 𝓡 code.env code.calls-looks·reach)
     (knows-find 𝓤 H 𝓜 𝓖 𝓡 code.env code.calls-table·find) (knows-asked 𝓤 H 𝓜 𝓖 𝓡 code.env code.calls-looks·asked)
     (knows-count 𝓤 H 𝓜 𝓖 𝓡 code.env code.calls-table·count) (knows-beyond 𝓤 H 𝓜 𝓖 𝓡 code.env code.calls-looks·beyond)
@@ -218,4 +213,4 @@ join-spec 𝓤 H 𝓜 𝓖 𝓡 =
     (knows-spot 𝓤 H 𝓜 𝓖 𝓡 code.env code.calls-looks·spot)
     (cited 𝓤 H (contractOf 𝓤 H (𝓖 .A) (Last 𝓤 H (𝓖 .A) (𝓜 .mem) (𝓡 .run))) 𝓜 𝓡 code.env #last′ last′-def.routine
     code.calls-relay·join-at (last′-thm.met 𝓤 H 𝓜 𝓖 𝓡)) κs qs (a .0) (a .1 .0) (a .1 .1 .0) (a .1 .1 .1 .0) (a .1 .1 .1 .1 .0)
-    (a .1 .1 .1 .1 .1 .0) (a .1 .1 .1 .1 .1 .1 .0) (a .1 .1 .1 .1 .1 .1 .1 .0) (g .1)))
+    (a .1 .1 .1 .1 .1 .0) (a .1 .1 .1 .1 .1 .1 .0) (a .1 .1 .1 .1 .1 .1 .1 .0) need)

@@ -25,8 +25,8 @@ use denote.Triple.Entry.{Args}
 use denote.Triple.Table.{cited}
 use Rattle.walks.proofs.Frame.{reborrows}
 use Rattle.walks.proofs.Handed.{Lending, number, truth, gives, keeps, shares, value, contractOf, valued-of, Fitting, Begins, calls-lent}
-use Rattle.walks.proofs.Handed.{leaves, proved-by}
-use Rattle.walks.proofs.Shown.{calls-shown, knowing, from-asked}
+use Rattle.walks.proofs.Handed.{leaves, proved-under}
+use Rattle.walks.proofs.Shown.{calls-shown}
 use Rattle.paper.specs.declared.Answer.{Answer}
 use Rattle.paper.specs.declared.Name.{Name}
 use Rattle.unit.specs.declared.Reading.{Reading}
@@ -46,8 +46,8 @@ use Rattle.steps.proofs.pass_step.Symbol as last′-def
 use Rattle.steps.proofs.pass_step.Symbol.{name as #last′}
 use Rattle.steps.proofs.pass_step.Met as last′-thm
 use Rattle.relay.proofs.Calls.{KnowsReachFor, knows-reach-for}
-use Rattle.relay.proofs.Values.{name, answer}
-use Rattle.relay.proofs.Asked.{reading, Len, IsOpen, ReachFor}
+use Rattle.relay.proofs.Values.{name, answer, reading}
+use Rattle.relay.proofs.Asked.{Len, IsOpen, ReachFor}
 use Rattle.relay.proofs.pass.Key.{name as #relay·pass}
 use Rattle.relay.proofs.pass as me
 use Rattle.relay.proofs.pass.Statement as stated
@@ -58,8 +58,8 @@ abbrev Need : (κs : Lfts 6) → Args me.signature κs → Type 0
 Need κs a = (a .1 .1 .1 .1 .1 .0 ≡ readOf (now (a .1 .1 .1 .1 .1 .1 .0))) × (isPart (a .1 .1 .1 .1 .1 .0 .unit) ≡ false)
 
 module _ {M : Type 1} (𝓤 : URA M) (H : Heap 𝓤) (A : Atoms 𝓤) (mem : Memory → SProp 𝓤) (run : Routine → Fun 𝓤) where
-  abbrev Stated : Lending 𝓤
-  Stated = record {
+  abbrev Mine : Lending 𝓤
+  Mine = record {
     lifetimes = 6;
     bounds = [];
     params = keeps 0 tt P.the-row ∷ gives 1 tt u32 ∷ gives 2 tt u32 ∷ gives 3 tt u8 ∷ value name ∷ value reading ∷ shares 4 tt u8 ∷ gives
@@ -67,9 +67,6 @@ module _ {M : Type 1} (𝓤 : URA M) (H : Heap 𝓤) (A : Atoms 𝓤) (mem : Mem
     result = answer;
     clauses = me.clauses 𝓤 H A mem run;
   }
-
-  abbrev Mine : Lending 𝓤
-  Mine = knowing 𝓤 Stated Need
 
   abbrev Last : Lending 𝓤
   Last = record {
@@ -103,7 +100,7 @@ module _ {M : Type 1} (𝓤 : URA M) (H : Heap 𝓤) (A : Atoms 𝓤) (mem : Mem
         (p : Place) → p .used ≡ stands
         → plan p a′ rows′ marks′ stores′ out′ ≡ passPlanned len p (now rows) (now marks) (now stores) (now out) who r (now rest)
 
-    walk : (need : Need κs a) → Fitting 𝓤 H A Mine κs a → (b : ℕ → ℕ) → Begins 𝓤 H A Mine W 𝓣 code.function κs qs tt a (tt, need) b
+    walk : (need : Need κs a) → Fitting 𝓤 H A Mine κs a → (b : ℕ → ℕ) → Begins 𝓤 H A Mine W 𝓣 code.function κs qs tt a tt b
     walk need are b =
         -- [the frame; the tokens; the slices], and then [the frame; the slice that is looked at; its token; …]
         reborrows ! (are .0 .0 .1 .0) refl tt $ move ! (0 ∷ 7 ∷ 1 ∷ []) $
@@ -123,7 +120,7 @@ module _ {M : Type 1} (𝓤 : URA M) (H : Heap 𝓤) (A : Atoms 𝓤) (mem : Mem
         (λ a′ ws. Left-is a′ (ws .1 .1 .0) (ws .1 .1 .1 .0) (ws .1 .1 .1 .1 .0) (ws .1 .1 .1 .1 .1 .1 .1 .1 .0)) (λ a′ ws. id⊢ 𝓤 _)
         (0 ∷ 5 ∷ 4 ∷ 6 ∷ 7 ∷ 8 ∷ 9 ∷ 3 ∷ 10 ∷ 11 ∷ 12 ∷ []) refl refl tt refl (λ a′ ws is-a e long.
         -- [the frame; the tokens; what says each last list; the places; their token]
-        leaves ! Mine κs qs tt a (valued-of 𝓤 H A Mine κs a) (tt, need) a′ (now places, ws .1 .1) is-a (refl, long)
+        leaves ! Mine κs qs tt a (valued-of 𝓤 H A Mine κs a) tt a′ (now places, ws .1 .1) is-a (refl, long)
         (factI 𝓤 _ (emp 𝓤) (passed-is (lent-tables (now places) (now rows) (now marks) (now stores)) who (now rest) (now out) r (need .0)
         (need .1) a′ (ws .1 .1 .0) (ws .1 .1 .1 .0) (ws .1 .1 .1 .1 .0) (ws .1 .1 .1 .1 .1 .1 .1 .1 .0) e))
         (0 ∷ 11 ∷ 1 ∷ 2 ∷ 3 ∷ 4 ∷ 5 ∷ 10 ∷ 6 ∷ 7 ∷ 8 ∷ 9 ∷ []) refl refl tt))))
@@ -131,12 +128,11 @@ module _ {M : Type 1} (𝓤 : URA M) (H : Heap 𝓤) (A : Atoms 𝓤) (mem : Mem
 pub pass-spec : {M : Type 1} → stated.statement M
 unfolding code.routine tablesOf
 pass-spec 𝓤 H 𝓜 𝓖 𝓡 =
-    from-asked 𝓤 H (𝓖 .A) (Stated 𝓤 H (𝓖 .A) (𝓜 .mem) (𝓡 .run)) Need (λ κs a g. id⊢ 𝓤 _) (tables 𝓤 H 𝓜 𝓡 code.env .C #relay·pass)
-    (proved-by 𝓤 H 𝓜 𝓖 𝓡 code.env (Mine 𝓤 H (𝓖 .A) (𝓜 .mem) (𝓡 .run)) #relay·pass code.function (code.unfolded 𝓤 H 𝓜 𝓡)
-    (tt, λ κs b. refl)
-    (λ κs qs _ a g. walk 𝓤 H (𝓖 .A) (𝓜 .mem) (𝓡 .run) (givenOf 𝓤 H 𝓜 𝓖) (tablesOf 𝓤 H 𝓜 (tables 𝓤 H 𝓜 𝓡 code.env))
+    proved-under 𝓤 H 𝓜 𝓖 𝓡 code.env (Mine 𝓤 H (𝓖 .A) (𝓜 .mem) (𝓡 .run)) #relay·pass code.function (code.unfolded 𝓤 H 𝓜 𝓡)
+    (tt, λ κs b. refl) Need (λ κs a g. id⊢ 𝓤 _)
+    (λ κs a need qs _ _. walk 𝓤 H (𝓖 .A) (𝓜 .mem) (𝓡 .run) (givenOf 𝓤 H 𝓜 𝓖) (tablesOf 𝓤 H 𝓜 (tables 𝓤 H 𝓜 𝓡 code.env))
     (knows-len 𝓤 H 𝓜 𝓖 𝓡 code.env code.calls-table·len) (knows-reach-for 𝓤 H 𝓜 𝓖 𝓡 code.env code.calls-looks·reach-for)
     (knows-is-open 𝓤 H 𝓜 𝓖 𝓡 code.env code.calls-table·is-open)
     (cited 𝓤 H (contractOf 𝓤 H (𝓖 .A) (Last 𝓤 H (𝓖 .A) (𝓜 .mem) (𝓡 .run))) 𝓜 𝓡 code.env #last′ last′-def.routine
     code.calls-steps·pass-step (last′-thm.met 𝓤 H 𝓜 𝓖 𝓡)) κs qs (a .0) (a .1 .0) (a .1 .1 .0) (a .1 .1 .1 .0)
-    (a .1 .1 .1 .1 .0) (a .1 .1 .1 .1 .1 .0) (a .1 .1 .1 .1 .1 .1 .0) (a .1 .1 .1 .1 .1 .1 .1 .0) (g .1)))
+    (a .1 .1 .1 .1 .0) (a .1 .1 .1 .1 .1 .0) (a .1 .1 .1 .1 .1 .1 .0) (a .1 .1 .1 .1 .1 .1 .1 .0) need)

@@ -19,13 +19,14 @@ use contract.Running.{givenOf, tables, tablesOf}
 use types.Kit.{Given, _$_, !, move}
 use sound.WpLaws.{fmOf}
 use denote.Builtin.{u8, u32}
-use denote.Ref.{RefT, ptr, name, now}
+use denote.Ref.{RefT, now}
 use denote.Triple.Statement.{Triple}
 use denote.Triple.Entry.{Args, Vals}
 use denote.Triple.Table.{cited}
-use Rattle.walks.proofs.Frame.{reads-all, lands-in, reborrows, counts}
-use Rattle.walks.proofs.Handed.{Lending, number, none, gives, value, contractOf, valued-of, Fitting, Begins, typed-as, calls-lent}
+use Rattle.walks.proofs.Frame.{reborrows, counts}
+use Rattle.walks.proofs.Handed.{Lending, number, none, gives, value, contractOf, valued-of, Fitting, Begins, calls-lent}
 use Rattle.walks.proofs.Handed.{calls-known, leaves, proved-by}
+use Rattle.walks.proofs.Shown.{calls-shown}
 use Rattle.paper.specs.Limits.{rowsNeed, storesNeed, places as placesFor}
 use Rattle.sample.specs.declared.Place.{Place}
 use Rattle.sample.proofs.Place as P
@@ -53,7 +54,8 @@ use Rattle.fresh.proofs.places_of as places-of′
 use Rattle.fresh.proofs.places_of.Symbol as places-of′-def
 use Rattle.fresh.proofs.places_of.Symbol.{name as #places-of′}
 use Rattle.fresh.proofs.places_of.Met as places-of′-thm
-use Rattle.table.proofs.Calls.{KnowsLen, knows-len, calls-len}
+use Rattle.table.proofs.Calls.{KnowsLen, knows-len}
+use Rattle.relay.proofs.Asked.{Len}
 use Rattle.relay.proofs.set_up.Key.{name as #relay·set-up}
 use Rattle.relay.proofs.set_up as me
 use Rattle.relay.proofs.set_up.Statement as stated
@@ -153,10 +155,8 @@ module _ {M : Type 1} (𝓤 : URA M) (H : Heap 𝓤) (A : Atoms 𝓤) (mem : Mem
         -- [the frame; the tokens; the places, the rows, the marks, the stores]
         reborrows ! (are .1 .0 .0 .1 .0) refl tt $
         -- `table::len`
-        move ! (5 ∷ 1 ∷ 0 ∷ []) $ calls-len ! mem run (fmOf 𝓤 H (W .laws) 𝓣) known-len (κs .0) (qs .0) (name places) (ptr places .0)
-        (ptr places .1)
-        (now places) (λ ν δ. reads-all ! 2 refl refl) (λ is-len.
-        move ! (2 ∷ []) $ lands-in ! tt (typed-as W (number w64) _ (length (now places)) _ refl is-len) $
+        move ! (0 ∷ 5 ∷ 1 ∷ []) $
+        calls-shown ! (fmOf 𝓤 H (W .laws) 𝓣) (Len 𝓤 H A mem run) known-len (κs .0) (qs .0) places tt tt tt tt tt refl tt refl (λ is-len.
         counts ! (are .1 .1 .0 .0 .1 .0) refl tt $ counts ! (are .1 .1 .1 .0 .0 .1 .0) refl tt $ counts ! (are .1 .1 .1 .1 .0 .0 .1 .0) refl
         tt $
         -- `fresh::fit`
