@@ -15,6 +15,10 @@ use Rattle.desk.proofs.Shares as H
 use Rattle.desk.proofs.Shares.Laws as H′
 use Rattle.asks.proofs.Arrival as A
 use Rattle.asks.proofs.Arrival.Laws as A′
+use Rattle.sample.proofs.Head as D
+use Rattle.sample.proofs.Head.Laws as D′
+use Rattle.asks.proofs.Settled as T
+use Rattle.asks.proofs.Settled.Laws as T′
 use Rattle.unit.proofs.Reading as R
 use Rattle.unit.proofs.Reading.Laws as R′
 
@@ -41,3 +45,9 @@ arrival = struct A.the-type A′.the-laws A′.the-plain (λ x w. refl)
 
 abbrev pub reading : Data
 reading = struct R.the-type R′.the-laws R′.the-plain (λ x w. refl)
+
+abbrev pub head : Data
+head = struct D.the-type D′.the-laws D′.the-plain (λ x w. refl)
+
+abbrev pub settled : Data
+settled = struct T.the-type T′.the-laws T′.the-plain (λ x w. refl)

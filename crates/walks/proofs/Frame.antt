@@ -8,6 +8,7 @@
 --                          constant
 --     looks-at, within     local k is read; its cell is within the frame, for `Types/Part.antt`'s `sub`
 --     sets, lands-in       [the frame; …]: a value is written to local k by an assignment, or by a call that has returned
+--     sets-as              `sets`, of a value that is shown to be v
 --     counts               [the frame; …]: the length of a slice of the frame is written to local a, `_a = t.1`
 --     reborrows, borrows   [the frame; …]: a slice of the frame, or an array of it, is made ready to be passed:
 --                          `_a = &(*t.0); _c = { _a, t.1 }`, and `_a = &_k; _c = { _a, n }`
@@ -345,6 +346,12 @@ module _ {M : Type 1} {𝓤 : URA M} {H : Heap 𝓤} {A : Atoms 𝓤} {K : Type 
         → Step K W (locals 𝓤 E (with-held k (holds v) hs) ∷ Γ) (runs C Λ E rest q) (locals 𝓤 E hs ∷ Γ)
         (runs C Λ E (seq (assign (place k []) rv) rest) q)
     sets t {k} r z wt = assigns t r (from t (stop t)) (writes-to t k z wt)
+
+    pub sets-as : K → {k : ℕ} {rv : RValue} {rest : Body} {u : Val} (v : Val) → Rv K W (locals 𝓤 E hs ∷ Γ) E rv u → u ≡ v
+        → T (ready E hs k) → T (hasTy (at 𝓤 H A W E k .0) v) × WT v
+        → Step K W (locals 𝓤 E (with-held k (holds v) hs) ∷ Γ) (runs C Λ E rest q) (locals 𝓤 E hs ∷ Γ)
+        (runs C Λ E (seq (assign (place k []) rv) rest) q)
+    sets-as t {k} {rv} v r e z wt = sets t (subst (Rv K W (locals 𝓤 E hs ∷ Γ) E rv) e r) z wt
 
     pub lands-in : K → {k : ℕ} {rest : Body} {v : Val} → T (ready E hs k) → T (hasTy (at 𝓤 H A W E k .0) v) × WT v
         → Step K W (locals 𝓤 E (with-held k (holds v) hs) ∷ Γ) (runs C Λ E rest q) (locals 𝓤 E hs ∷ Γ) (lands C Λ E (place k []) v rest q)
