@@ -2,7 +2,7 @@
 use mathlib.Core.Path.{refl}
 use lib.Dec.{lit<}
 use denote.Slice.{Room}
-use Rattle.walks.proofs.Handed.{Data, struct, array}
+use Rattle.walks.proofs.Data.{Data, struct, array}
 use Rattle.sample.proofs.Place as P
 use Rattle.relay.proofs.Values.{place}
 use Rattle.held.proofs.Begun as B

@@ -12,7 +12,8 @@ use prog.Routine.{Routine}
 use prog.Wp.{Heap}
 use ghost.Atoms.{Atoms}
 use denote.Builtin.{u32}
-use Rattle.walks.proofs.Handed.{Data, Lending, struct, number, truth, value}
+use Rattle.walks.proofs.Data.{Data, struct, number, truth}
+use Rattle.walks.proofs.Lending.{Lending, value}
 use Rattle.walks.proofs.Shown.{Look}
 use Rattle.laws.specs.Table.{seek, count}
 use Rattle.sample.proofs.Place as P

@@ -1,6 +1,6 @@
 -- The types of the values that the relay's calls take and answer. Assumes nothing.
 use mathlib.Core.Path.{refl}
-use Rattle.walks.proofs.Handed.{Data, struct, choice}
+use Rattle.walks.proofs.Data.{Data, struct, choice}
 use Rattle.sample.proofs.Place as P
 use Rattle.sample.proofs.Place.Laws as P′
 use Rattle.paper.proofs.Name as Q

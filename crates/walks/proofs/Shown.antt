@@ -29,8 +29,9 @@ use denote.Triple.Statement.{Triple}
 use denote.Triple.Clauses.{Clauses, atExit}
 use Rattle.walks.proofs.Rows.{Ref, lent-shr, back-shr}
 use Rattle.walks.proofs.Frame.{Held, holds, with-held, ready, locals, valued, at, opds}
-use Rattle.walks.proofs.Handed.{Data, Param, shares, value, typesOf, Ends, Known, lents, told, overOf, Lending}
-use Rattle.walks.proofs.Handed.{contractOf, calls-known}
+use Rattle.walks.proofs.Data.{Data}
+use Rattle.walks.proofs.Lending.{Param, shares, value, typesOf, Ends, Known, lents, told, overOf, Lending, contractOf}
+use Rattle.walks.proofs.Handed.{calls-known}
 
 -- ---- values before other parameters: their values, what is known of their machine values, and these
 abbrev pub values : {n : ℕ} → List Data → List (Param n) → List (Param n)

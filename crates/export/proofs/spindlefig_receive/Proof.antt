@@ -19,8 +19,10 @@ use denote.Triple.Statement.{Triple}
 use denote.Triple.Entry.{Args, Vals}
 use denote.Triple.Table.{cited}
 use Rattle.walks.proofs.Frame.{reborrows}
-use Rattle.walks.proofs.Handed.{Lending, leading, leading-shares, number, gives, shares, value, contractOf, valued-of, Fitting, Begins}
-use Rattle.walks.proofs.Handed.{calls-lent, calls-known, leaves, proved-by}
+use Rattle.walks.proofs.Data.{number}
+use Rattle.walks.proofs.Lending.{Lending, leading, leading-shares, gives, shares, value, contractOf, valued-of, Fitting, Begins}
+use Rattle.walks.proofs.Lending.{proved-by}
+use Rattle.walks.proofs.Handed.{calls-lent, calls-known, leaves}
 use Rattle.sample.specs.declared.Place.{Place}
 use Rattle.sample.proofs.Place as P
 use denote.Builtin.{u8, u32, u64}

@@ -24,8 +24,9 @@ use denote.Triple.Entry.{Args}
 use denote.Triple.Table.{cited}
 use Rattle.walks.proofs.Rows.{Ref}
 use Rattle.walks.proofs.Frame.{reads, sets, reborrows, borrows}
-use Rattle.walks.proofs.Handed.{Lending, gives, value, contractOf, valued-of, Fitting, Begins, typed-as, calls-lent, leaves, proved-by}
-use Rattle.walks.proofs.Handed.{lends-local, local-back}
+use Rattle.walks.proofs.Data.{typed-as}
+use Rattle.walks.proofs.Lending.{Lending, gives, value, contractOf, valued-of, Fitting, Begins, proved-by}
+use Rattle.walks.proofs.Handed.{calls-lent, leaves, lends-local, local-back}
 use Rattle.sample.specs.declared.Place.{Place}
 use Rattle.sample.proofs.Place as P
 use Rattle.desk.specs.declared.GivenUp.{GivenUp}

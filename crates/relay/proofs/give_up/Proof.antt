@@ -29,8 +29,9 @@ use denote.Triple.Entry.{Args, Vals}
 use denote.Triple.Table.{cited}
 use Rattle.walks.proofs.Rows.{Ref, kept-long}
 use Rattle.walks.proofs.Frame.{reads, reads-all, sets, lands-in, reborrows}
-use Rattle.walks.proofs.Handed.{Lending, number, gives, keeps, value, contractOf, valued-of, Fitting, Begins, typed-as, calls-lent, leaves}
-use Rattle.walks.proofs.Handed.{calls-known, proved-by}
+use Rattle.walks.proofs.Data.{number, typed-as}
+use Rattle.walks.proofs.Lending.{Lending, gives, keeps, value, contractOf, valued-of, Fitting, Begins, proved-by}
+use Rattle.walks.proofs.Handed.{calls-lent, leaves, calls-known}
 use Rattle.walks.proofs.Shown.{calls-shown}
 use Rattle.laws.specs.Rows.{_<?_}
 use Rattle.laws.specs.Table.{seek}

@@ -25,8 +25,9 @@ use denote.Triple.Statement.{Triple}
 use denote.Triple.Entry.{Args}
 use denote.Triple.Table.{cited}
 use Rattle.walks.proofs.Frame.{reborrows, sets, within}
-use Rattle.walks.proofs.Handed.{Lending, number, gives, keeps, shares, value, contractOf, Given-in, valued-of, Fitting, Begins, calls-known}
-use Rattle.walks.proofs.Handed.{calls-lent, leaves, proved-under}
+use Rattle.walks.proofs.Data.{number}
+use Rattle.walks.proofs.Lending.{Lending, gives, keeps, shares, value, contractOf, Given-in, valued-of, Fitting, Begins, proved-under}
+use Rattle.walks.proofs.Handed.{calls-known, calls-lent, leaves}
 use Rattle.walks.proofs.Shown.{calls-shown}
 use Rattle.laws.specs.Table.{seek, count}
 use Rattle.paper.specs.declared.Answer.{Answer}

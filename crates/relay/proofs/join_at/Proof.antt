@@ -29,8 +29,9 @@ use denote.Triple.Entry.{Args, Vals}
 use denote.Triple.Table.{cited}
 use Rattle.walks.proofs.Rows.{Ref, lent-mut}
 use Rattle.walks.proofs.Frame.{envOf, reads, sets, reborrows, goes-on}
-use Rattle.walks.proofs.Handed.{Lending, number, gives, keeps, shares, value, contractOf, walkedTo, valued-of, Fitting, Begins, typed-as}
-use Rattle.walks.proofs.Handed.{calls-lent, leaves, slice-home, proved-under}
+use Rattle.walks.proofs.Data.{number, typed-as}
+use Rattle.walks.proofs.Lending.{Lending, gives, keeps, shares, value, contractOf, walkedTo, valued-of, Fitting, Begins, proved-under}
+use Rattle.walks.proofs.Handed.{calls-lent, leaves, slice-home}
 use Rattle.paper.specs.declared.Answer.{Answer}
 use Rattle.paper.specs.declared.Name.{Name}
 use Rattle.sample.specs.declared.Place.{Place}

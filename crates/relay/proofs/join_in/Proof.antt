@@ -42,8 +42,9 @@ use Rattle.walks.proofs.Rows.{Ref}
 use Rattle.walks.proofs.Steps.{big-lit}
 use Rattle.walks.proofs.Fields.{To, fields-out, fields-in, lent-field, back-field}
 use Rattle.walks.proofs.Frame.{within, looks-at, reads, reads-all, sets, sets-as, lands-in, reborrows}
-use Rattle.walks.proofs.Handed.{Data, Lending, number, array, gives, keeps, shares, points, value, contractOf, valued-of, Fitting, Begins}
-use Rattle.walks.proofs.Handed.{typed-as, calls-lent, leaves, proved-under}
+use Rattle.walks.proofs.Data.{Data, number, array, typed-as}
+use Rattle.walks.proofs.Lending.{Lending, gives, keeps, shares, points, value, contractOf, valued-of, Fitting, Begins, proved-under}
+use Rattle.walks.proofs.Handed.{calls-lent, leaves}
 use Rattle.paper.specs.declared.Name.{Name}
 use Rattle.paper.proofs.Answer as N
 use Rattle.sample.specs.declared.Place.{Place}

@@ -24,8 +24,9 @@ use denote.Triple.Statement.{Triple}
 use denote.Triple.Entry.{Args}
 use denote.Triple.Table.{cited}
 use Rattle.walks.proofs.Frame.{reborrows}
-use Rattle.walks.proofs.Handed.{Lending, number, truth, gives, keeps, shares, value, contractOf, valued-of, Fitting, Begins, calls-lent}
-use Rattle.walks.proofs.Handed.{leaves, proved-under}
+use Rattle.walks.proofs.Data.{number, truth}
+use Rattle.walks.proofs.Lending.{Lending, gives, keeps, shares, value, contractOf, valued-of, Fitting, Begins, proved-under}
+use Rattle.walks.proofs.Handed.{calls-lent, leaves}
 use Rattle.walks.proofs.Shown.{calls-shown}
 use Rattle.paper.specs.declared.Answer.{Answer}
 use Rattle.paper.specs.declared.Name.{Name}

@@ -23,8 +23,9 @@ use denote.Triple.Statement.{Triple}
 use denote.Triple.Entry.{Args, Vals}
 use denote.Triple.Table.{cited}
 use Rattle.walks.proofs.Frame.{envOf, reads, sets, reborrows, goes-on}
-use Rattle.walks.proofs.Handed.{Lending, truth, gives, shares, value, contractOf, walkedTo, valued-of, Fitting, Begins, typed-as}
-use Rattle.walks.proofs.Handed.{calls-lent, calls-known, leaves, doubles, proved-by}
+use Rattle.walks.proofs.Data.{truth, typed-as}
+use Rattle.walks.proofs.Lending.{Lending, gives, shares, value, contractOf, walkedTo, valued-of, Fitting, Begins, proved-by}
+use Rattle.walks.proofs.Handed.{calls-lent, calls-known, leaves, doubles}
 use Rattle.paper.specs.declared.Answer.{Answer}
 use Rattle.unit.specs.declared.Reading.{Reading}
 use Rattle.unit.specs.Layout.{readOf}

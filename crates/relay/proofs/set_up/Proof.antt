@@ -24,8 +24,9 @@ use denote.Triple.Statement.{Triple}
 use denote.Triple.Entry.{Args, Vals}
 use denote.Triple.Table.{cited}
 use Rattle.walks.proofs.Frame.{reborrows, counts}
-use Rattle.walks.proofs.Handed.{Lending, number, none, gives, value, contractOf, valued-of, Fitting, Begins, calls-lent}
-use Rattle.walks.proofs.Handed.{calls-known, leaves, proved-by}
+use Rattle.walks.proofs.Data.{number, none}
+use Rattle.walks.proofs.Lending.{Lending, gives, value, contractOf, valued-of, Fitting, Begins, proved-by}
+use Rattle.walks.proofs.Handed.{calls-lent, calls-known, leaves}
 use Rattle.walks.proofs.Shown.{calls-shown}
 use Rattle.paper.specs.Limits.{rowsNeed, storesNeed, places as placesFor}
 use Rattle.sample.specs.declared.Place.{Place}
