@@ -9,7 +9,6 @@ use sample::Head;
 use unit::Part;
 use unit::Reading;
 use unit::Unit;
-use unit::Whole;
 ghost use mathlib.Core.Path.{_≡_};
 ghost use Rattle.finished.specs.Times.{late};
 ghost use Rattle.sample.specs.Head.{alone};

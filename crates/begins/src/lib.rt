@@ -15,8 +15,8 @@ ghost use Rattle.sample.specs.Place.{closed, opened};
 ghost use Rattle.desk.specs.Desk.{own, turn, left, joining};
 ghost use Rattle.asks.specs.Settled.{before, after, laidIn};
 
-// The same of a sample that is not open, over a free place: a part that is refused leaves the place as it stood. With more parts than one
-// it completes nothing.
+// TYPE 2, 3 and 4 of a sample that is not open, over a free place: a part that is refused leaves the place as it stood. Of more parts than
+// one it completes nothing.
 pub fn open(
     h: Shares,
     desk: usize,
