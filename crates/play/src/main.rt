@@ -1,33 +1,46 @@
-// Plays one desk through a fixed script, and prints each answer, a line a call.
-mod call;
-mod descriptions;
+// Plays the script on standard input: a line is a call of the relay or of a leaf, and what it answers is printed behind it.
+mod characters;
+mod cutting;
+mod desks;
+mod layouts;
 mod print;
-mod samples;
-mod shares;
-mod turn;
-mod units;
+mod script;
+mod times;
+mod walk;
+
+use libc::STDIN_FILENO;
+
+// A line that is no remark: the line itself, and then what its call answers. The relay is handed on.
+fn play_line(h: hall::Hall, line: &[u8]) -> hall::Hall {
+    let call = script::call(line);
+    if call == script::REMARK {
+        return h;
+    }
+    print::text(line);
+    print::text(b" =");
+    characters::play(call, line);
+    layouts::play(call, line);
+    cutting::play(call, line);
+    walk::play(call, line);
+    times::play(call, line);
+    let after = desks::play(h, call, line);
+    print::end_line();
+    after
+}
+
+// The lines one after the other.
+fn play(text: &[u8]) {
+    let mut h = hall::set_up(1);
+    let mut at = 0;
+    while at < text.len() {
+        let line = script::line(text, at);
+        h = play_line(h, line);
+        at += line.len() + 1;
+    }
+}
 
 fn main() {
-    let d = units::cases(call::fresh());
-    let d = units::followed(d);
-    let d = units::broken(d);
-    let d = units::fields(d);
-    let d = samples::two(d);
-    let d = samples::three(d);
-    let d = samples::spoiled(d);
-    let d = samples::sizes(d);
-    let d = samples::given_up(d);
-    let d = samples::large(d);
-    let d = samples::most(d);
-    let d = samples::fifteen(d);
-    let d = shares::without(d);
-    let d = shares::with(d);
-    let d = units::seventeen(d);
-    let d = descriptions::wrap(d);
-    let d = descriptions::conflict(d);
-    let d = descriptions::long(d);
-    let d = descriptions::newest(d);
-    let d = descriptions::forgotten(d);
-    descriptions::good(d);
-    descriptions::broken(d);
+    let mut text = io::large_buffer();
+    let n = io::read_full(STDIN_FILENO, &mut text);
+    play(&text[..n]);
 }

@@ -1,12 +1,17 @@
-// Words and numbers on standard output.
+// Numbers and bytes on standard output, a blank before each.
 use libc::STDOUT_FILENO;
+use paper::Refusal;
 
-pub(crate) fn word(text: &[u8]) {
-    io::write_all(STDOUT_FILENO, text);
+pub(crate) fn text(s: &[u8]) {
+    io::write_all(STDOUT_FILENO, s);
 }
 
-fn blank() {
-    io::write_all(STDOUT_FILENO, b" ");
+pub(crate) fn blank() {
+    text(b" ");
+}
+
+pub(crate) fn end_line() {
+    text(b"\n");
 }
 
 pub(crate) fn number(n: usize) {
@@ -14,16 +19,41 @@ pub(crate) fn number(n: usize) {
     io::print_decimal(STDOUT_FILENO, n as u64);
 }
 
-pub(crate) fn end_line() {
-    io::write_all(STDOUT_FILENO, b"\n");
+pub(crate) fn numbers(s: &[usize]) {
+    let mut i = 0;
+    while i < s.len() {
+        number(s[i]);
+        i += 1;
+    }
 }
 
-// The bytes in hexadecimal, a blank before each.
+pub(crate) fn refused(r: Refusal) {
+    text(b" refused");
+    number(paper::number(r));
+}
+
+// A yes or a no.
+pub(crate) fn answer(yes: bool) {
+    if yes {
+        text(b" yes");
+    } else {
+        text(b" no");
+    }
+}
+
+// Bytes in hexadecimal behind a colon.
 pub(crate) fn bytes(s: &[u8]) {
+    text(b" :");
     let mut i = 0;
     while i < s.len() {
         blank();
         io::print_hex(STDOUT_FILENO, octets::byte(s, i) as u64, 2);
         i += 1;
     }
+}
+
+// What was laid into an output: its first sixteen bytes, and its last four with the two behind them.
+pub(crate) fn laid(out: &[u8], n: usize) {
+    bytes(octets::cut(out, 0, octets::least(n, 16)));
+    bytes(octets::cut(out, octets::less(n, 4), 6));
 }

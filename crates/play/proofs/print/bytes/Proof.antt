@@ -1,12 +1,12 @@
 -- `play::print::bytes` is safe and ends: it counts up to the length. Assumes nothing.
-use Prim.Native.Nat.{_≤_, _-_}
 use borrow.Author.Needs.{needs}
+use Prim.Native.Nat.{_-_}
 use lib.ListN.{length}
 use Rattle.play.proofs.print.bytes.Statement.{statement}
 use Rattle.play.proofs.print.bytes.Tie as tie
 
 abbrev Inv-loop : tie.InvT-loop
-Inv-loop s i₀ i = i ≤ length s
+Inv-loop s i₀ i = Unit {0}
 
 abbrev μ-loop : tie.MeasureT-loop
 μ-loop s i₀ i = length s - i
@@ -17,6 +17,8 @@ bytes-spec =
     (tie.spec
     Inv-loop
     μ-loop
+    (λ c. search needs)
+    (λ c κs. search needs)
     (λ c. search needs)
     (λ c κs. search needs)
     (λ c κs. search needs)
