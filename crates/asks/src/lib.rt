@@ -81,10 +81,10 @@ pub fn next_time(time: u32, x: Part) -> u32
 pub fn does_conflict(q: Head, x: Part) -> bool
     ensures { λ r. ⌜ r ≡ conflicts (alone q) x ⌝ }
 {
-    if sample::has(q, x.this) {
+    if parts::has(q, x.this) {
         return true;
     }
-    if sample::agrees(q, x) {
+    if parts::agrees(q, x) {
         return false;
     }
     true

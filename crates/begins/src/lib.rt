@@ -41,15 +41,15 @@ pub fn open(
         (joining h (own closed (now (row .entry)) (now (marks .entry)) store out) time used next (opened desk time x) x
         (now (d .entry)))) ⌝ }
 {
-    let new = sample::opened(desk, time, x);
+    let new = bare::opened(desk, time, x);
     let late = asks::is_late(row, marks, time);
-    let bar = asks::find_bar(late, sample::oversize(new, x, d.len()), h);
+    let bar = asks::find_bar(late, parts::oversize(new, x, d.len()), h);
     match bar {
         Bar::Refused(why) => asks::said(q, used, next, Outcome::Refused(why)),
         Bar::Free => {
-            sample::clear(kinds, starts, lens, bytes);
-            let k = sample::keep(new, kinds, starts, lens, bytes, x, d);
-            asks::said(k, used, next, Outcome::Kept(sample::missing(k)))
+            bare::clear(kinds, starts, lens, bytes);
+            let k = keeps::keep(new, kinds, starts, lens, bytes, x, d);
+            asks::said(k, used, next, Outcome::Kept(keeps::missing(k)))
         }
     }
 }

@@ -19,8 +19,8 @@ use Rattle.text.specs.Unicode as T
 use Rattle.unit.specs.declared.Part.{Part}
 use Rattle.unit.specs.declared.Unit as U
 use Rattle.unit.specs.declared.Reading.{Reading}
-use Rattle.unit.specs.Layout.{readOf}
-use Rattle.unit.specs.Head.{headOf}
+use Rattle.unit.specs.Layout.{fieldsOf, readOf}
+use Rattle.unit.specs.Head.{partHead, headOf}
 use Rattle.boxes.specs.declared.Stepped.{Stepped}
 use Rattle.boxes.specs.Step.{stepOf, contentsOf}
 use Rattle.finished.specs.Times.{late, markedRow, markedUsed}
@@ -32,9 +32,9 @@ use Rattle.sample.specs.Head.{headOf as numbersOf, whole, alone}
 use Rattle.sample.specs.Place as P
 use Rattle.style.specs.declared.Checked.{Checked}
 use Rattle.style.specs.declared.Noted.{Noted}
-use Rattle.style.specs.Book.{checkOf}
-use Rattle.style.specs.Store.{After, left, noted}
-use Rattle.style.specs.Shown.{shown}
+use Rattle.style.specs.Record.{recordAt, indexOf, descriptionOf}
+use Rattle.style.specs.Book.{checkOf, entryOf}
+use Rattle.style.specs.Store.{moved, held, inStore, stays, repeated, forgotten, stored, After, left, noted}
 use Rattle.writer.specs.declared.Written.{Written}
 use Rattle.writer.specs.Write.{caption, written, described}
 use Rattle.writer.specs.Write as W
@@ -94,13 +94,20 @@ text-well-formed u s = equation (T.wellFormed u s)
 pub text-boundary : (u : ℕ) (s : List ℕ) (at limit : ℕ) → Determines (λ (r : ℕ). r ≡ T.boundary u s at limit)
 text-boundary u s at limit = equation (T.boundary u s at limit)
 
--- ---- unit
-pub unit-read : (rest : List ℕ) → Determines (λ (r : Reading). r ≡ readOf rest)
-unit-read rest = equation (readOf rest)
+-- ---- fields, reads, part_header, header
+pub fields-read-fields : (s : List ℕ) (u kind len : ℕ) → Determines (λ (r : U.Unit). r ≡ fieldsOf s u kind len)
+fields-read-fields s u kind len = equation (fieldsOf s u kind len)
 
-pub unit-put-head : (out : List ℕ) (x : U.Unit)
+pub reads-read : (rest : List ℕ) → Determines (λ (r : Reading). r ≡ readOf rest)
+reads-read rest = equation (readOf rest)
+
+pub part-header-put-part : (out : List ℕ) (w : Part)
+    → Determines (λ (r : ℕ × List ℕ). (r .0 ≡ length (partHead w)) × (r .1 ≡ sets out 0 (partHead w)))
+part-header-put-part out w = two (length (partHead w)) (sets out 0 (partHead w))
+
+pub header-put-head : (out : List ℕ) (x : U.Unit)
     → Determines (λ (r : ℕ × List ℕ). (r .0 ≡ length (headOf x)) × (r .1 ≡ sets out 0 (headOf x)))
-unit-put-head out x = two (length (headOf x)) (sets out 0 (headOf x))
+header-put-head out x = two (length (headOf x)) (sets out 0 (headOf x))
 
 -- ---- boxes
 pub boxes-step : (m : List ℕ) (at : ℕ) → Determines (λ (r : Stepped). r ≡ stepOf m at)
@@ -118,7 +125,7 @@ pub finished-mark : (row : List ℕ) (used time : ℕ)
 finished-mark row used time =
     determined-by-two (λ x. x .0) (λ x. x .1) (λ l k. (l, k)) (λ x. refl) (markedRow row used time) (markedUsed used)
 
--- ---- sample: the numbers of a place go by value, its arrays are lent where they stand
+-- ---- one open sample: the numbers of a place go by value, its arrays are lent where they stand
 -- the four arrays
 abbrev pub Arrays : Type 0
 Arrays = List ℕ × List ℕ × List ℕ × List ℕ
@@ -129,75 +136,105 @@ placeOf h l = whole h (l .0) (l .1) (l .2) (l .3)
 abbrev pub arraysOf : Place → Arrays
 arraysOf p = (p .kinds, p .starts, p .lens, p .bytes)
 
-pub sample-closed : Determines (λ (r : Place). r ≡ P.closed)
-sample-closed = equation P.closed
+pub bare-closed : Determines (λ (r : Place). r ≡ P.closed)
+bare-closed = equation P.closed
 
-pub sample-closed-head : Determines (λ (r : Head). r ≡ numbersOf P.closed)
-sample-closed-head = equation (numbersOf P.closed)
+pub bare-closed-head : Determines (λ (r : Head). r ≡ numbersOf P.closed)
+bare-closed-head = equation (numbersOf P.closed)
 
-pub sample-opened : (desk time : ℕ) (x : Part) → Determines (λ (r : Head). r ≡ numbersOf (P.opened desk time x))
-sample-opened desk time x = equation (numbersOf (P.opened desk time x))
+pub bare-opened : (desk time : ℕ) (x : Part) → Determines (λ (r : Head). r ≡ numbersOf (P.opened desk time x))
+bare-opened desk time x = equation (numbersOf (P.opened desk time x))
 
-pub sample-clear :
+pub bare-clear :
     Determines (λ (l : Arrays).
     (l .0 ≡ replicate partsMost 0) × (l .1 ≡ replicate partsMost 0) × (l .2 ≡ replicate partsMost 0) × (l .3 ≡ replicate sampleMost 0))
-sample-clear =
+bare-clear =
     λ x y p q i.
     ((p .0 ∙ sym (q .0)) i, (p .1 ∙ sym (q .1)) i, (p .2 ∙ sym (q .2)) i, (p .3 ∙ sym (q .3)) i)
 
-pub sample-has : (h : Head) (this : ℕ) → Determines (λ (r : Bool). r ≡ P.has (alone h) this)
-sample-has h this = equation (P.has (alone h) this)
+pub parts-has : (h : Head) (this : ℕ) → Determines (λ (r : Bool). r ≡ P.has (alone h) this)
+parts-has h this = equation (P.has (alone h) this)
 
-pub sample-agrees : (h : Head) (x : Part) → Determines (λ (r : Bool). r ≡ P.agrees (alone h) x)
-sample-agrees h x = equation (P.agrees (alone h) x)
+pub parts-agrees : (h : Head) (x : Part) → Determines (λ (r : Bool). r ≡ P.agrees (alone h) x)
+parts-agrees h x = equation (P.agrees (alone h) x)
 
-pub sample-repeats : (h : Head) (l : Arrays) (x : Part) (d : List ℕ) → Determines (λ (r : Bool). r ≡ P.repeats (placeOf h l) x d)
-sample-repeats h l x d = equation (P.repeats (placeOf h l) x d)
+pub repeats-repeats : (h : Head) (l : Arrays) (x : Part) (d : List ℕ) → Determines (λ (r : Bool). r ≡ P.repeats (placeOf h l) x d)
+repeats-repeats h l x d = equation (P.repeats (placeOf h l) x d)
 
-pub sample-oversize : (h : Head) (x : Part) (n : ℕ) → Determines (λ (r : Bool). r ≡ P.oversize (alone h) x n)
-sample-oversize h x n = equation (P.oversize (alone h) x n)
+pub parts-oversize : (h : Head) (x : Part) (n : ℕ) → Determines (λ (r : Bool). r ≡ P.oversize (alone h) x n)
+parts-oversize h x n = equation (P.oversize (alone h) x n)
 
-pub sample-keep : (h : Head) (l : Arrays) (x : Part) (d : List ℕ)
+pub keeps-keep : (h : Head) (l : Arrays) (x : Part) (d : List ℕ)
     → Determines (λ (r : Head × Arrays). placeOf (r .0) (r .1) ≡ P.kept (placeOf h l) x d)
-sample-keep h l x d =
+keeps-keep h l x d =
     determined (λ r. placeOf (r .0) (r .1)) (λ (p : Place). (numbersOf p, arraysOf p)) (λ r. refl) (P.kept (placeOf h l) x d)
 
-pub sample-missing : (h : Head) → Determines (λ (r : ℕ). r ≡ P.missing (alone h))
-sample-missing h = equation (P.missing (alone h))
+pub keeps-missing : (h : Head) → Determines (λ (r : ℕ). r ≡ P.missing (alone h))
+keeps-missing h = equation (P.missing (alone h))
 
-pub sample-measure : (h : Head) (l : Arrays)
+pub lengths-measure : (h : Head) (l : Arrays)
     → Determines (λ (r : Lengths).
     (r .string ≡ length (stringOf (P.piecesOf (placeOf h l)))) × (r .sample ≡ length (together (P.piecesOf (placeOf h l)))))
-sample-measure h l =
+lengths-measure h l =
     determined-by-two (λ r. r .string) (λ r. r .sample) (λ a b. record { string = a; sample = b }) (λ r. refl)
     (length (stringOf (P.piecesOf (placeOf h l)))) (length (together (P.piecesOf (placeOf h l))))
 
 -- it is told how long the parts are, put together, and says the same of all that are so long
-pub sample-is-sound : (h : Head) (l : Arrays) (many : ℕ) → many ≡ length (together (P.piecesOf (placeOf h l)))
+pub order-is-sound : (h : Head) (l : Arrays) (many : ℕ) → many ≡ length (together (P.piecesOf (placeOf h l)))
     → Determines (λ (r : Bool). (starts lens bytes : List ℕ)
     → many ≡ length (together (P.piecesOf (whole h (l .0) starts lens bytes)))
     → r ≡ sound (h .slen) (P.piecesOf (whole h (l .0) starts lens bytes)))
-sample-is-sound h l many e =
+order-is-sound h l many e =
     λ x y p q.
     equation (sound (h .slen) (P.piecesOf (placeOf h l))) x y (p (l .1) (l .2) (l .3) e) (q (l .1) (l .2) (l .3) e)
 
 -- it is lent no kinds
-pub sample-put-together : (h : Head) (starts lens bytes out : List ℕ)
+pub together-put-together : (h : Head) (starts lens bytes out : List ℕ)
     → Determines (λ (o : List ℕ). (kinds : List ℕ) → o ≡ sets out 0 (together (P.piecesOf (whole h kinds starts lens bytes))))
-sample-put-together h starts lens bytes out =
+together-put-together h starts lens bytes out =
     λ x y p q. equation (sets out 0 (together (P.piecesOf (whole h [] starts lens bytes)))) x y (p []) (q [])
 
--- ---- style
-pub style-check : (book : List ℕ) → Determines (λ (r : Checked). r ≡ checkOf book)
-style-check book = equation (checkOf book)
+-- ---- records, book, window, slots, notes
+pub records-record-at : (s : List ℕ) (i : ℕ) → Determines (λ (bytes : List ℕ). bytes ≡ recordAt s i)
+records-record-at s i = equation (recordAt s i)
 
-pub style-note : (store : List ℕ) (newest sidx : ℕ) (d : List ℕ)
+pub records-description-of : (r : List ℕ) → Determines (λ (bytes : List ℕ). bytes ≡ descriptionOf r)
+records-description-of r = equation (descriptionOf r)
+
+pub records-index-at : (s : List ℕ) (i : ℕ) → Determines (λ (r : ℕ). (r ≡ indexOf (recordAt s i)) × (r < 256))
+records-index-at s i = λ x y p q. equation (indexOf (recordAt s i)) x y (p .0) (q .0)
+
+pub book-check : (book : List ℕ) → Determines (λ (r : Checked). r ≡ checkOf book)
+book-check book = equation (checkOf book)
+
+pub book-of-book : (book : List ℕ) (index : ℕ) → Determines (λ (bytes : List ℕ). bytes ≡ entryOf book index (checkOf book))
+book-of-book book index = equation (entryOf book index (checkOf book))
+
+pub window-newest-of : (newest sidx : ℕ) → Determines (λ (r : ℕ). r ≡ moved newest sidx)
+window-newest-of newest sidx = equation (moved newest sidx)
+
+pub window-is-held : (store : List ℕ) (newest v : ℕ) → Determines (λ (r : Bool). r ≡ held store newest v)
+window-is-held store newest v = equation (held store newest v)
+
+pub window-is-repeated : (store : List ℕ) (newest v : ℕ) (d : List ℕ) → Determines (λ (r : Bool). r ≡ repeated store newest v d)
+window-is-repeated store newest v d = equation (repeated store newest v d)
+
+pub window-does-stay : (newest new v : ℕ) → Determines (λ (r : Bool). r ≡ stays newest new v)
+window-does-stay newest new v = equation (stays newest new v)
+
+pub window-of-store : (store : List ℕ) (newest v : ℕ) → Determines (λ (bytes : List ℕ). bytes ≡ inStore store newest v)
+window-of-store store newest v = equation (inStore store newest v)
+
+pub slots-forget : (store : List ℕ) (newest new : ℕ) → Determines (λ (s : List ℕ). s ≡ forgotten newest new store)
+slots-forget store newest new = equation (forgotten newest new store)
+
+pub slots-put-description : (store : List ℕ) (v : ℕ) (d : List ℕ) → Determines (λ (s : List ℕ). s ≡ stored store v d)
+slots-put-description store v d = equation (stored store v d)
+
+pub notes-note : (store : List ℕ) (newest sidx : ℕ) (d : List ℕ)
     → Determines (λ (x : Noted × List ℕ). left (x .0) (x .1) ≡ noted store newest sidx d)
-style-note store newest sidx d =
+notes-note store newest sidx d =
     determined (λ x. left (x .0) (x .1)) (λ (a : After). (a .answer, a .store)) (λ x. refl) (noted store newest sidx d)
-
-pub style-show : (book store : List ℕ) (newest index : ℕ) → Determines (λ (bytes : List ℕ). bytes ≡ shown book store newest index)
-style-show book store newest index = equation (shown book store newest index)
 
 -- ---- writer
 pub writer-write-sample : (u sidx sdur : ℕ) (string modifiers : List ℕ) (m number : ℕ) (out : List ℕ)

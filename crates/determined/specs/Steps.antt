@@ -18,6 +18,7 @@ use Rattle.sample.specs.declared.Place.{Place}
 use Rattle.sample.specs.declared.Head.{Head}
 use Rattle.sample.specs.Head.{headOf}
 use Rattle.sample.specs.Place.{bare, closed}
+use Rattle.style.specs.Shown.{shown}
 use Rattle.desk.specs.declared.Shares.{Shares}
 use Rattle.desk.specs.declared.GivenUp.{GivenUp}
 use Rattle.asks.specs.declared.Arrival.{Arrival}
@@ -179,6 +180,9 @@ steps-yield-step table at m rows marks who =
     (yielding table p rows marks who) r s (a p refl) (b p refl)
 
 -- ---- shows
+pub shows-show : (book store : List ℕ) (newest index : ℕ) → Determines (λ (bytes : List ℕ). bytes ≡ shown book store newest index)
+shows-show book store newest index = equation (shown book store newest index)
+
 pub shows-look-up : (marks stores : List ℕ) (desk index : ℕ) (book : List ℕ)
     → Determines (λ (bytes : List ℕ). bytes ≡ lookedUp marks stores desk index book)
 shows-look-up marks stores desk index book = equation (lookedUp marks stores desk index book)

@@ -46,13 +46,13 @@ pub fn complete(
         ≡ completed (own p (now (row .entry)) (now (marks .entry)) store (now (out .entry))) time used next
         (before q kinds starts lens bytes)) ⌝ }
 {
-    let missing = sample::missing(q);
+    let missing = keeps::missing(q);
     if 0 < missing {
         return asks::said(q, used, next, Outcome::Kept(missing));
     }
-    let l = sample::measure(q, kinds, starts, lens, bytes);
+    let l = lengths::measure(q, kinds, starts, lens, bytes);
     let many = l.sample;
-    if sample::is_sound(q, kinds, many) {
+    if order::is_sound(q, kinds, many) {
         let facts = Facts {
             time,
             u: q.u,
@@ -61,15 +61,15 @@ pub fn complete(
             string: l.string,
             sample: many,
         };
-        sample::put_together(q, starts, lens, bytes, out);
-        sample::clear(kinds, starts, lens, bytes);
+        together::put_together(q, starts, lens, bytes, out);
+        bare::clear(kinds, starts, lens, bytes);
         finish(row, marks, time);
-        return asks::said(sample::closed_head(), used, next, Outcome::Joined(facts));
+        return asks::said(bare::closed_head(), used, next, Outcome::Joined(facts));
     }
-    sample::clear(kinds, starts, lens, bytes);
+    bare::clear(kinds, starts, lens, bytes);
     finish(row, marks, time);
     asks::said(
-        sample::closed_head(),
+        bare::closed_head(),
         used,
         next,
         Outcome::Refused(Refusal::Spoiled),

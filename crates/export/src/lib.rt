@@ -286,7 +286,7 @@ pub extern "C" fn spindlefig_lookup<'a>(
 pub extern "C" fn spindlefig_check(book: &[u8], row: &mut [u64])
     ensures { λ _. ⌜ now (row .exit) ≡ sets (now (row .entry)) 0 (checkedRow (checkOf (now (book .entry)))) ⌝ }
 {
-    put_checked(row, style::check(book));
+    put_checked(row, book::check(book));
 }
 
 // Writes payload k of a sample.

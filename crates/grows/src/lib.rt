@@ -43,16 +43,16 @@ pub fn join(
     if asks::is_late(row, marks, time) {
         return asks::said(q, used, next, Outcome::Refused(Refusal::Late));
     }
-    if sample::repeats(q, kinds, starts, lens, bytes, x, d) {
+    if repeats::repeats(q, kinds, starts, lens, bytes, x, d) {
         return asks::said(q, used, next, Outcome::Repeat);
     }
     if asks::does_conflict(q, x) {
         return asks::said(q, used, next, Outcome::Refused(Refusal::Conflict));
     }
-    if sample::oversize(q, x, d.len()) {
+    if parts::oversize(q, x, d.len()) {
         return asks::said(q, used, next, Outcome::Refused(Refusal::Size));
     }
-    let k = sample::keep(q, kinds, starts, lens, bytes, x, d);
+    let k = keeps::keep(q, kinds, starts, lens, bytes, x, d);
     ends::complete(
         k,
         kinds,

@@ -36,7 +36,7 @@ pub struct Freed {
 pub fn set_up(n: usize) -> Hall
     ensures { λ r. ⌜ (tablesOf r ≡ setUp n lent .tables) × (r .out ≡ replicate sampleMost 0) ⌝ }
 {
-    let places = [sample::closed(); PLACES_MOST];
+    let places = [bare::closed(); PLACES_MOST];
     let mut rows = [7u32; ROWS_MOST];
     let mut marks = [9u32; MARKS_MOST];
     let mut stores = [7u8; STORES_MOST];

@@ -62,7 +62,7 @@ pub fn list(input: &[u8], text: &mut [u8]) -> usize
     let mut stores = [0u8; STORE_SIZE];
     let begun = held::set_up(
         1,
-        [sample::closed(); PLACES_MOST],
+        [bare::closed(); PLACES_MOST],
         &mut rows,
         &mut marks,
         &mut stores,

@@ -110,7 +110,7 @@ fn look(h: Hall, line: &[u8]) -> Hall {
 fn check(line: &[u8]) {
     let mut book = [0u8; BOOK_MOST];
     let n = script::bytes(line, 1, &mut book);
-    match style::check(octets::cut(&book, 0, n)) {
+    match book::check(octets::cut(&book, 0, n)) {
         Checked::Good(many) => print::number(many),
         Checked::Refused(r, i) => {
             print::refused(r);

@@ -48,7 +48,7 @@ fn tell(x: Unit) {
 fn rest(line: &[u8]) {
     let mut s = [0u8; REST_MOST];
     let n = script::bytes(line, 1, &mut s);
-    let r = unit::read(octets::cut(&s, 0, n));
+    let r = reads::read(octets::cut(&s, 0, n));
     print::number(r.used);
     let x = r.unit;
     tell(x);
@@ -57,7 +57,7 @@ fn rest(line: &[u8]) {
 // A header's length, and the output after it was put over twelve bytes of aa.
 fn head(x: Unit) {
     let mut out = [0xaau8; 12];
-    print::number(unit::put_head(&mut out, x));
+    print::number(header::put_head(&mut out, x));
     print::bytes(&out);
 }
 

@@ -165,7 +165,7 @@ pub fn receive(
 ) -> Answer
     ensures { λ a. ⌜ Receives (lent places rows marks stores) who rest out a ⌝ }
 {
-    let r = unit::read(rest);
+    let r = reads::read(rest);
     if asks::is_part(r) {
         join(places, rows, marks, stores, who, r, rest, out)
     } else {

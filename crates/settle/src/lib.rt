@@ -103,9 +103,9 @@ pub fn lose(
     let used = x.used;
     let part = x.part;
     let next = asks::next_time(time, part);
-    let new = sample::opened(desk, time, part);
+    let new = bare::opened(desk, time, part);
     let late = asks::is_late(row, marks, time);
-    let bar = asks::find_bar(late, sample::oversize(new, part, d.len()), h);
+    let bar = asks::find_bar(late, parts::oversize(new, part, d.len()), h);
     match bar {
         Bar::Refused(why) => asks::says(used, next, Outcome::Refused(why)),
         Bar::Free => {
@@ -113,7 +113,7 @@ pub fn lose(
             let mut starts: [usize; PARTS_MOST] = [0; PARTS_MOST];
             let mut lens: [usize; PARTS_MOST] = [0; PARTS_MOST];
             let mut bytes: [u8; SAMPLE_MOST] = [0; SAMPLE_MOST];
-            let k = sample::keep(new, &mut kinds, &mut starts, &mut lens, &mut bytes, part, d);
+            let k = keeps::keep(new, &mut kinds, &mut starts, &mut lens, &mut bytes, part, d);
             let r = ends::complete(
                 k,
                 &mut kinds,

@@ -63,7 +63,7 @@ pub fn take_description(
     ensures { λ r. ⌜ ((p : Place) (row out : List ℕ) → left (turn p r) row (now (marks .exit)) (now (store .exit)) out
         ≡ descriptionTaken (own p row (now (marks .entry)) (now (store .entry)) out) time used w (now (d .entry))) ⌝ }
 {
-    let r = style::note(store, octets::word(marks, 1) as usize, w.sidx, d);
+    let r = notes::note(store, octets::word(marks, 1) as usize, w.sidx, d);
     octets::put_word(marks, 1, (r.newest % 4294967296) as u32);
     let outcome = r.outcome;
     asks::says(used, time, outcome)

@@ -37,10 +37,10 @@ use Rattle.octets.proofs.least as least
 use Rattle.octets.proofs.least.Symbol as least-def
 use Rattle.octets.proofs.least.Symbol.{name as #least}
 use Rattle.octets.proofs.least.Met as least-thm
-use Rattle.sample.proofs.closed as closed′
-use Rattle.sample.proofs.closed.Symbol as closed-def
-use Rattle.sample.proofs.closed.Symbol.{name as #closed}
-use Rattle.sample.proofs.closed.Met as closed-thm
+use Rattle.bare.proofs.closed as closed′
+use Rattle.bare.proofs.closed.Symbol as closed-def
+use Rattle.bare.proofs.closed.Symbol.{name as #closed}
+use Rattle.bare.proofs.closed.Met as closed-thm
 use Rattle.table.proofs.is_below as below
 use Rattle.table.proofs.is_below.Symbol as below-def
 use Rattle.table.proofs.is_below.Symbol.{name as #below}

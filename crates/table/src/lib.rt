@@ -207,7 +207,7 @@ pub fn free(t: &mut [Place], m: usize, i: usize)
     ensures { λ _. ⌜ now (t .exit) ≡ stored m i closed (now (t .entry)) ⌝ }
 {
     if is_below(i, m, t.len()) {
-        t[i] = sample::closed();
+        t[i] = bare::closed();
     }
 }
 

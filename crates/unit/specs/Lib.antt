@@ -1,5 +1,6 @@
 pub mod Layout
 pub mod Head
+pub mod Low
 pub mod Again
 pub mod Reads
 pub mod Converse

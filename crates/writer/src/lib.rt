@@ -140,7 +140,7 @@ fn find(u: usize, s: &[u8], k: usize, number: usize) -> PartFound
 fn lay(out: &mut [u8], x: Unit, d: &[u8]) -> usize
     ensures { λ r. ⌜ PutDown r (now (out .exit)) (now (out .entry)) x (now (d .entry)) ⌝ }
 {
-    let n = unit::put_head(out, x);
+    let n = header::put_head(out, x);
     octets::put(out, n, d);
     n + d.len()
 }

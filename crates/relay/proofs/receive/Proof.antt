@@ -33,10 +33,10 @@ use Rattle.sample.specs.declared.Place.{Place}
 use Rattle.sample.proofs.Place as P
 use Rattle.desk.specs.Desk.{isPart}
 use Rattle.memory.specs.Relay.{tables as lent-tables, done as lent-done, receivedAt}
-use Rattle.unit.proofs.read as read′
-use Rattle.unit.proofs.read.Symbol as read′-def
-use Rattle.unit.proofs.read.Symbol.{name as #read′}
-use Rattle.unit.proofs.read.Met as read′-thm
+use Rattle.reads.proofs.read as read′
+use Rattle.reads.proofs.read.Symbol as read′-def
+use Rattle.reads.proofs.read.Symbol.{name as #read′}
+use Rattle.reads.proofs.read.Met as read′-thm
 use Rattle.asks.proofs.is_part as part′
 use Rattle.asks.proofs.is_part.Symbol as part′-def
 use Rattle.asks.proofs.is_part.Symbol.{name as #part′}
@@ -142,7 +142,7 @@ module _ {M : Type 1} (𝓤 : URA M) (H : Heap 𝓤) (A : Atoms 𝓤) (mem : Mem
     walk =
         -- [the frame; the tokens; the slices]
         move ! (11 ∷ []) $ doubles ! u8 (κs .1 .1 .1 .1 .0) rest (slice-vals rest) $
-        -- `unit::read`
+        -- `reads::read`
         calls-known ! (fmOf 𝓤 H (W .laws) 𝓣) Read known-read (κs .1 .1 .1 .1 .0, tt) (qs .1 .1 .1 .1 .0, tt) tt (rest, tt)
         (slice-vals rest, tt) tt (id⊢ 𝓤 _) tt
         r (λ z _. id⊢ 𝓤 _) (2 ∷ 7 ∷ 0 ∷ []) refl refl tt refl (λ _ is-r _.
@@ -182,7 +182,7 @@ receive-spec 𝓤 H 𝓜 𝓖 𝓡 =
     proved-by 𝓤 H 𝓜 𝓖 𝓡 code.env (Mine 𝓤 H (𝓖 .A) (𝓜 .mem) (𝓡 .run)) #relay·receive code.function (code.unfolded 𝓤 H 𝓜 𝓡) (tt, λ κs b. refl)
     (λ κs a qs _ _. walk 𝓤 H (𝓖 .A) (𝓜 .mem) (𝓡 .run) (givenOf 𝓤 H 𝓜 𝓖) (tablesOf 𝓤 H 𝓜 (tables 𝓤 H 𝓜 𝓡 code.env))
     (cited 𝓤 H (contractOf 𝓤 H (𝓖 .A) (Read 𝓤 H (𝓖 .A) (𝓜 .mem) (𝓡 .run))) 𝓜 𝓡 code.env #read′ read′-def.routine
-    code.calls-unit·read (read′-thm.met 𝓤 H 𝓜 𝓖 𝓡))
+    code.calls-reads·read (read′-thm.met 𝓤 H 𝓜 𝓖 𝓡))
     (cited 𝓤 H (contractOf 𝓤 H (𝓖 .A) (IsPart 𝓤 H (𝓖 .A) (𝓜 .mem) (𝓡 .run))) 𝓜 𝓡 code.env #part′ part′-def.routine
     code.calls-asks·is-part (part′-thm.met 𝓤 H 𝓜 𝓖 𝓡))
     (cited 𝓤 H (contractOf 𝓤 H (𝓖 .A) (Join 𝓤 H (𝓖 .A) (𝓜 .mem) (𝓡 .run))) 𝓜 𝓡 code.env #join′ join′-def.routine

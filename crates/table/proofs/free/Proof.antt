@@ -174,4 +174,4 @@ free-spec 𝓤 H 𝓜 𝓖 𝓡 =
     entered 𝓤 H (tripleOf 𝓤 H (𝓖 .A) me.signature (me.spec 𝓤 H (𝓖 .A) (𝓜 .mem) (𝓡 .run)))
     (tables 𝓤 H 𝓜 𝓡 code.env .C) (tables 𝓤 H 𝓜 𝓡 code.env .Λ) #table·free code.function (code.unfolded 𝓤 H 𝓜 𝓡)
     (meets 𝓤 H (𝓖 .A) (givenOf 𝓤 H 𝓜 𝓖) (𝓜 .mem) (𝓡 .run) (tablesOf 𝓤 H 𝓜 (tables 𝓤 H 𝓜 𝓡 code.env))
-    (knows-below 𝓤 H 𝓜 𝓖 𝓡 code.env code.calls-table·is-below) (knows-closed 𝓤 H 𝓜 𝓖 𝓡 code.env code.calls-sample·closed))
+    (knows-below 𝓤 H 𝓜 𝓖 𝓡 code.env code.calls-table·is-below) (knows-closed 𝓤 H 𝓜 𝓖 𝓡 code.env code.calls-bare·closed))
