@@ -2,4 +2,3 @@ pub mod Run
 pub mod Alone
 pub mod Peace
 pub mod Exactly
-pub mod Worked
