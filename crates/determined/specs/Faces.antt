@@ -3,18 +3,25 @@
 use Prim.Native.Nat.{ℕ}
 use mathlib.Core.Path.{_≡_, refl}
 use mathlib.Core.List.{List, []}
-use lib.ListN.{length, drop, replicate}
+use lib.ListN.{length, drop, set, replicate}
 use lib.Seq.{sets}
 use Rattle.laws.specs.Exactly.{Determines, determined, equation, determined-by-two}
 use Rattle.paper.specs.Limits.{sampleMost}
 use Rattle.paper.specs.declared.Answer.{Answer}
 use Rattle.paper.specs.declared.Name.{Name}
 use Rattle.text.specs.Unicode.{character}
+use Rattle.boxes.specs.declared.Found.{Found}
 use Rattle.boxes.specs.Step.{stepOf}
+use Rattle.style.specs.declared.Checked.{Checked}
 use Rattle.style.specs.Book.{checkOf}
+use Rattle.writer.specs.declared.Written.{Written}
 use Rattle.writer.specs.Write.{caption, written, described}
+use Rattle.desk.specs.declared.GivenUp.{GivenUp}
+use Rattle.desk.specs.Desk.{givenUpNumber}
+use Rattle.memory.specs.declared.Started.{Started}
 use Rattle.sample.specs.declared.Place.{Place}
 use Rattle.memory.specs.Relay.{Tables, tables, Prepared, prepared, setUp, Done, done, receivedAt, Released, released, givenUpAt, lookedUp}
+use Rattle.memory.specs.Relay.{startedNumber}
 use Rattle.held.specs.declared.Begun.{Begun}
 use Rattle.held.specs.declared.Called.{Called}
 use Rattle.held.specs.declared.Yielded.{Yielded}
@@ -23,8 +30,10 @@ use Rattle.hall.specs.declared.Hall.{Hall}
 use Rattle.hall.specs.declared.Heard.{Heard}
 use Rattle.hall.specs.declared.Freed.{Freed}
 use Rattle.hall.specs.Hall.{tablesOf, lent, heard, freed}
-use Rattle.export.specs.Export.{nameOf, Numbered, numbered, startedAs, releasedAs, Rowed, rowed, doneAs, Wrote, wrote, writtenAs}
-use Rattle.export.specs.Export.{checkedRow, steppedRow, placeSize, rowMost, needed}
+use Rattle.export.specs.Export.{Numbered, numbered, startedAs, releasedAs, Rowed, rowed, doneAs, Wrote, wrote, writtenAs}
+use Rattle.numbers.specs.Numbers.{checkedRow, writtenRow, steppedRow, nameOf}
+use Rattle.answers.specs.Answers.{answerRow, rowMost}
+use Rattle.sizes.specs.Sizes.{placeSize, needed}
 use Rattle.lines.specs.Typed.{Page, page, typed}
 use Rattle.lines.specs.Digits.{digits}
 use Rattle.lines.specs.Line.{lineOf}
@@ -74,6 +83,40 @@ pub hall-give-up : (h : Hall) (who : Name)
 hall-give-up h who =
     determined-by-two freed (λ r. r .hall .out) (λ (d : Released) o. record { hall = hallOf (d .tables) o; answer = d .answer }) (λ r. refl)
     (givenUpAt (tablesOf h) who) (h .out)
+
+-- ---- numbers: the row is lent
+pub numbers-put-at : (row : List ℕ) (i v : ℕ) → Determines (λ (l : List ℕ). l ≡ set row i v)
+numbers-put-at row i v = equation (set row i v)
+
+pub numbers-put-checked : (row : List ℕ) (c : Checked) → Determines (λ (l : List ℕ). l ≡ sets row 0 (checkedRow c))
+numbers-put-checked row c = equation (sets row 0 (checkedRow c))
+
+pub numbers-put-written : (row : List ℕ) (w : Written) → Determines (λ (l : List ℕ). l ≡ sets row 0 (writtenRow w))
+numbers-put-written row w = equation (sets row 0 (writtenRow w))
+
+pub numbers-put-stepped : (row : List ℕ) (next : ℕ) (f : Found) → Determines (λ (l : List ℕ). l ≡ sets row 0 (steppedRow next f))
+numbers-put-stepped row next f = equation (sets row 0 (steppedRow next f))
+
+pub numbers-name-of : (desk time : ℕ) → Determines (λ (r : Name). r ≡ nameOf desk time)
+numbers-name-of desk time = equation (nameOf desk time)
+
+pub numbers-started-number : (s : Started) → Determines (λ (r : ℕ). r ≡ startedNumber s)
+numbers-started-number s = equation (startedNumber s)
+
+pub numbers-given-up-number : (g : GivenUp) → Determines (λ (r : ℕ). r ≡ givenUpNumber g)
+numbers-given-up-number g = equation (givenUpNumber g)
+
+-- ---- answers
+pub answers-put-answer : (row : List ℕ) (a : Answer) → Determines (λ (x : ℕ × List ℕ). (x .0 ≡ a .used) × (x .1 ≡ sets row 0 (answerRow a)))
+answers-put-answer row a = two (a .used) (sets row 0 (answerRow a))
+
+-- ---- sizes
+pub sizes-place : Determines (λ (r : ℕ). r ≡ placeSize)
+sizes-place = equation placeSize
+
+-- places, rows, marks, stores
+pub sizes-needed : (need : ℕ → ℕ) (n : ℕ) → Determines (λ (r : ℕ). r ≡ needed need n)
+sizes-needed need n = equation (needed need n)
 
 -- ---- export
 pub export-place-size : Determines (λ (r : ℕ). r ≡ placeSize)

@@ -1,10 +1,10 @@
 -- Determined, one line for each public function: two answers, with the memory lent for them, that its promise permits for the same input
 -- are equal. The functions on bytes, text, units, boxes, samples and descriptions, and the writer. Of a part that is returned the bytes
 -- are determined here, and the place is by its lifetime. Assumes nothing.
-use Prim.Native.Nat.{ℕ, _-_, _<_, min}
+use Prim.Native.Nat.{ℕ, _+_, _-_, _*_, _<_, _≤_, min}
 use mathlib.Core.Path.{_≡_, refl, sym, _∙_}
 use mathlib.Core.Bool.{Bool}
-use mathlib.Core.List.{List, []}
+use mathlib.Core.List.{List, [], _++_}
 use lib.ListN.{length, getD, set, drop, replicate}
 use lib.Seq.{sets}
 use Rattle.laws.specs.Exactly.{Determines, determined, equation, determined-by-two}
@@ -18,9 +18,11 @@ use Rattle.paper.specs.Words.{numberOf, kindOf}
 use Rattle.text.specs.Unicode as T
 use Rattle.unit.specs.declared.Part.{Part}
 use Rattle.unit.specs.declared.Unit as U
+use Rattle.unit.specs.declared.Unit.the-variants.{Part as PartUnit}
 use Rattle.unit.specs.declared.Reading.{Reading}
-use Rattle.unit.specs.Layout.{fieldsOf, readOf}
+use Rattle.unit.specs.Layout.{fieldsOf, readOf, stringPart, modifiersPart}
 use Rattle.unit.specs.Head.{partHead, headOf}
+use Rattle.unit.specs.Again.{bytesOf}
 use Rattle.boxes.specs.declared.Stepped.{Stepped}
 use Rattle.boxes.specs.Step.{stepOf, contentsOf}
 use Rattle.finished.specs.Times.{late, markedRow, markedUsed}
@@ -36,6 +38,10 @@ use Rattle.style.specs.Record.{recordAt, indexOf, descriptionOf}
 use Rattle.style.specs.Book.{checkOf, entryOf}
 use Rattle.style.specs.Store.{moved, held, inStore, stays, repeated, forgotten, stored, After, left, noted}
 use Rattle.writer.specs.declared.Written.{Written}
+use Rattle.writer.specs.declared.PartFound.{PartFound}
+use Rattle.writer.specs.Cut.{strings}
+use Rattle.writer.specs.Find.{found, foundIn, sought}
+use Rattle.writer.specs.Returns.{PutDown, blockType}
 use Rattle.writer.specs.Write.{caption, written, described}
 use Rattle.writer.specs.Write as W
 
@@ -84,15 +90,15 @@ octets-word row i = equation (getD row i 0)
 pub octets-put-word : (row : List ℕ) (i v : ℕ) → Determines (λ (l : List ℕ). l ≡ set row i v)
 octets-put-word row i v = equation (set row i v)
 
--- ---- text
-pub text-character : (u : ℕ) (s : List ℕ) (at : ℕ) → Determines (λ (r : ℕ). r ≡ T.character u (drop at s))
-text-character u s at = equation (T.character u (drop at s))
+-- ---- finder, strings
+pub finder-character : (u : ℕ) (s : List ℕ) (at : ℕ) → Determines (λ (r : ℕ). r ≡ T.character u (drop at s))
+finder-character u s at = equation (T.character u (drop at s))
 
-pub text-well-formed : (u : ℕ) (s : List ℕ) → Determines (λ (r : Bool). r ≡ T.wellFormed u s)
-text-well-formed u s = equation (T.wellFormed u s)
+pub strings-well-formed : (u : ℕ) (s : List ℕ) → Determines (λ (r : Bool). r ≡ T.wellFormed u s)
+strings-well-formed u s = equation (T.wellFormed u s)
 
-pub text-boundary : (u : ℕ) (s : List ℕ) (at limit : ℕ) → Determines (λ (r : ℕ). r ≡ T.boundary u s at limit)
-text-boundary u s at limit = equation (T.boundary u s at limit)
+pub strings-boundary : (u : ℕ) (s : List ℕ) (at limit : ℕ) → Determines (λ (r : ℕ). r ≡ T.boundary u s at limit)
+strings-boundary u s at limit = equation (T.boundary u s at limit)
 
 -- ---- fields, reads, part_header, header
 pub fields-read-fields : (s : List ℕ) (u kind len : ℕ) → Determines (λ (r : U.Unit). r ≡ fieldsOf s u kind len)
@@ -236,14 +242,60 @@ pub notes-note : (store : List ℕ) (newest sidx : ℕ) (d : List ℕ)
 notes-note store newest sidx d =
     determined (λ x. left (x .0) (x .1)) (λ (a : After). (a .answer, a .store)) (λ x. refl) (noted store newest sidx d)
 
--- ---- writer
-pub writer-write-sample : (u sidx sdur : ℕ) (string modifiers : List ℕ) (m number : ℕ) (out : List ℕ)
+-- ---- allows, passes, lays, sends, cuts, writes, describes
+pub allows-is-unwritable : (u sidx sdur : ℕ) (string modifiers : List ℕ) (m room : ℕ)
+    → Determines (λ (r : Bool). r ≡ W.unwritable (caption u sidx sdur string modifiers) m room)
+allows-is-unwritable u sidx sdur string modifiers m room = equation (W.unwritable (caption u sidx sdur string modifiers) m room)
+
+pub allows-is-undescribed : (sidx n m room : ℕ) → Determines (λ (r : Bool). r ≡ W.undescribed sidx n m room)
+allows-is-undescribed sidx n m room = equation (W.undescribed sidx n m room)
+
+pub passes-find : (u : ℕ) (s : List ℕ) (k number : ℕ)
+    → Determines (λ (r : PartFound). (r ≡ sought number 0 (found 0 0 0) (strings u k s)) × (r .count ≤ length s))
+passes-find u s k number = λ x y p q. equation (sought number 0 (found 0 0 0) (strings u k s)) x y (p .0) (q .0)
+
+-- each function that puts a unit with its data down
+put-down : (out : List ℕ) (x : U.Unit) (d : List ℕ) → Determines (λ (r : ℕ × List ℕ). PutDown (r .0) (r .1) out x d)
+put-down out x d = λ r t p q. two (length (bytesOf x d)) (sets out 0 (bytesOf x d)) r t (p .size, p .out) (q .size, q .out)
+
+pub lays-lay : (out : List ℕ) (x : U.Unit) (d : List ℕ) → Determines (λ (r : ℕ × List ℕ). PutDown (r .0) (r .1) out x d)
+lays-lay out x d = put-down out x d
+
+pub lays-write-whole : (u sidx sdur : ℕ) (string modifiers out : List ℕ)
+    → Determines (λ (r : ℕ × List ℕ). PutDown (r .0) (r .1) out (W.wholeUnit (caption u sidx sdur string modifiers)) (string ++ modifiers))
+lays-write-whole u sidx sdur string modifiers out = put-down out (W.wholeUnit (caption u sidx sdur string modifiers)) (string ++ modifiers)
+
+pub lays-write-string : (u sidx sdur slen total this : ℕ) (d out : List ℕ)
+    → Determines (λ (r : ℕ × List ℕ). PutDown (r .0) (r .1) out (PartUnit (stringPart u total this sdur sidx slen (length d))) d)
+lays-write-string u sidx sdur slen total this d out = put-down out (PartUnit (stringPart u total this sdur sidx slen (length d))) d
+
+pub lays-write-block : (kind sdur total this : ℕ) (d out : List ℕ)
+    → Determines (λ (r : ℕ × List ℕ). PutDown (r .0) (r .1) out (PartUnit (modifiersPart kind total this sdur (length d))) d)
+lays-write-block kind sdur total this d out = put-down out (PartUnit (modifiersPart kind total this sdur (length d))) d
+
+pub sends-send-string : (u sidx sdur : ℕ) (string modifiers : List ℕ) (f : PartFound) (total number : ℕ) (out : List ℕ)
+    → Determines (λ (r : ℕ × List ℕ). PutDown (r .0) (r .1) out
+    (PartUnit (stringPart u total number sdur sidx (length string + length modifiers) (length (foundIn f string)))) (foundIn f string))
+sends-send-string u sidx sdur string modifiers f total number out =
+    put-down out (PartUnit (stringPart u total number sdur sidx (length string + length modifiers) (length (foundIn f string)))) (foundIn f string)
+
+pub sends-send-block : (sdur : ℕ) (modifiers : List ℕ) (j k total number : ℕ) (out : List ℕ)
+    → Determines (λ (r : ℕ × List ℕ). PutDown (r .0) (r .1) out
+    (PartUnit (modifiersPart (blockType j) total number sdur (length (part (j * k) k modifiers)))) (part (j * k) k modifiers))
+sends-send-block sdur modifiers j k total number out =
+    put-down out (PartUnit (modifiersPart (blockType j) total number sdur (length (part (j * k) k modifiers)))) (part (j * k) k modifiers)
+
+pub writes-write-sample : (u sidx sdur : ℕ) (string modifiers : List ℕ) (m number : ℕ) (out : List ℕ)
     → Determines (λ (x : Written × List ℕ). W.after (x .0) (x .1) ≡ written (caption u sidx sdur string modifiers) m number out)
-writer-write-sample u sidx sdur string modifiers m number out =
+writes-write-sample u sidx sdur string modifiers m number out =
     determined (λ x. W.after (x .0) (x .1)) (λ (a : W.After). (a .answer, a .out)) (λ x. refl)
     (written (caption u sidx sdur string modifiers) m number out)
 
-pub writer-write-description : (sidx : ℕ) (d : List ℕ) (m number : ℕ) (out : List ℕ)
+pub cuts-write-cut : (u sidx sdur : ℕ) (string modifiers : List ℕ) (m number : ℕ) (out : List ℕ)
+    → Determines (λ (x : Written × List ℕ). W.after (x .0) (x .1) ≡ written (caption u sidx sdur string modifiers) m number out)
+cuts-write-cut u sidx sdur string modifiers m number out = writes-write-sample u sidx sdur string modifiers m number out
+
+pub describes-write-description : (sidx : ℕ) (d : List ℕ) (m number : ℕ) (out : List ℕ)
     → Determines (λ (x : Written × List ℕ). W.after (x .0) (x .1) ≡ described sidx d m number out)
-writer-write-description sidx d m number out =
+describes-write-description sidx d m number out =
     determined (λ x. W.after (x .0) (x .1)) (λ (a : W.After). (a .answer, a .out)) (λ x. refl) (described sidx d m number out)

@@ -13,6 +13,8 @@ use Rattle.laws.specs.Table.{seek, count}
 use Rattle.paper.specs.Limits.{places, rowsNeed, storesNeed}
 use Rattle.paper.specs.declared.Answer.{Answer}
 use Rattle.paper.specs.declared.Name.{Name}
+use Rattle.paper.specs.declared.Refusal.{Refusal}
+use Rattle.paper.specs.declared.Outcome.the-variants.{Refused}
 use Rattle.unit.specs.declared.Reading.{Reading}
 use Rattle.sample.specs.declared.Place.{Place}
 use Rattle.sample.specs.declared.Head.{Head}
@@ -21,6 +23,7 @@ use Rattle.sample.specs.Place.{bare, closed}
 use Rattle.style.specs.Shown.{shown}
 use Rattle.desk.specs.declared.Shares.{Shares}
 use Rattle.desk.specs.declared.GivenUp.{GivenUp}
+use Rattle.desk.specs.Desk.{says}
 use Rattle.asks.specs.declared.Arrival.{Arrival}
 use Rattle.asks.specs.Settled.{openIn}
 use Rattle.memory.specs.declared.Started.{Started}
@@ -36,37 +39,41 @@ use Rattle.steps.specs.Plan.{Plan, plan, partPlanned, laidPlan, passPlanned, Yi
 use Rattle.determined.specs.Leaves.{Arrays, placeOf}
 use Rattle.determined.specs.Desk.{any, Sample, sample}
 
--- ---- table
-pub table-len : (t : List Place) → Determines (λ (r : ℕ). r ≡ length t)
-table-len t = equation (length t)
+-- ---- finds
+pub finds-len : (t : List Place) → Determines (λ (r : ℕ). r ≡ length t)
+finds-len t = equation (length t)
 
-pub table-find : (t : List Place) (m : ℕ) (who : Name) → Determines (λ (r : ℕ). r ≡ seek (isAt (who .desk) (who .time)) (take m t))
-table-find t m who = equation (seek (isAt (who .desk) (who .time)) (take m t))
+pub finds-find : (t : List Place) (m : ℕ) (who : Name) → Determines (λ (r : ℕ). r ≡ seek (isAt (who .desk) (who .time)) (take m t))
+finds-find t m who = equation (seek (isAt (who .desk) (who .time)) (take m t))
 
-pub table-lowest : (t : List Place) (m : ℕ) → Determines (λ (r : ℕ). r ≡ seek vacant (take m t))
-table-lowest t m = equation (seek vacant (take m t))
+pub finds-lowest : (t : List Place) (m : ℕ) → Determines (λ (r : ℕ). r ≡ seek vacant (take m t))
+finds-lowest t m = equation (seek vacant (take m t))
 
-pub table-count : (t : List Place) (m : ℕ) (who : Name) (timed : Bool) → Determines (λ (r : ℕ). r ≡ count (counts timed who) (take m t))
-table-count t m who timed = equation (count (counts timed who) (take m t))
+-- ---- counts
+pub counts-count : (t : List Place) (m : ℕ) (who : Name) (timed : Bool) → Determines (λ (r : ℕ). r ≡ count (counts timed who) (take m t))
+counts-count t m who timed = equation (count (counts timed who) (take m t))
 
-pub table-is-open : (t : List Place) (m : ℕ) (who : Name)
+pub counts-is-open : (t : List Place) (m : ℕ) (who : Name)
     → Determines (λ (r : Bool). r ≡ holds (isAt (who .desk) (who .time)) (take m t))
-table-is-open t m who = equation (holds (isAt (who .desk) (who .time)) (take m t))
+counts-is-open t m who = equation (holds (isAt (who .desk) (who .time)) (take m t))
 
-pub table-scan : (t : List Place) (m : ℕ) → Determines (λ (r : Seen). r ≡ seen (take m t))
-table-scan t m = equation (seen (take m t))
+-- ---- census
+pub census-scan : (t : List Place) (m : ℕ) → Determines (λ (r : Seen). r ≡ seen (take m t))
+census-scan t m = equation (seen (take m t))
 
-pub table-free : (t : List Place) (m i : ℕ) → Determines (λ (l : List Place). l ≡ stored m i closed t)
-table-free t m i = equation (stored m i closed t)
+-- ---- frees
+pub frees-free : (t : List Place) (m i : ℕ) → Determines (λ (l : List Place). l ≡ stored m i closed t)
+frees-free t m i = equation (stored m i closed t)
 
-pub table-clear : (t : List Place) (m : ℕ) → Determines (λ (l : List Place). l ≡ cleared m t)
-table-clear t m = equation (cleared m t)
+pub frees-clear : (t : List Place) (m : ℕ) → Determines (λ (l : List Place). l ≡ cleared m t)
+frees-clear t m = equation (cleared m t)
 
-pub table-head : (t : List Place) (i : ℕ) → Determines (λ (r : Head). r ≡ headOf (getD t i closed))
-table-head t i = equation (headOf (getD t i closed))
+-- ---- heads
+pub heads-head : (t : List Place) (i : ℕ) → Determines (λ (r : Head). r ≡ headOf (getD t i closed))
+heads-head t i = equation (headOf (getD t i closed))
 
-pub table-set-head : (t : List Place) (i : ℕ) (h : Head) → Determines (λ (l : List Place). l ≡ set t i (headed h (getD t i closed)))
-table-set-head t i h = equation (set t i (headed h (getD t i closed)))
+pub heads-set-head : (t : List Place) (i : ℕ) (h : Head) → Determines (λ (l : List Place). l ≡ set t i (headed h (getD t i closed)))
+heads-set-head t i h = equation (set t i (headed h (getD t i closed)))
 
 -- ---- gate
 pub gate-desks-of : (marks : List ℕ) → Determines (λ (r : ℕ). r ≡ desksOf marks)
@@ -87,6 +94,9 @@ gate-is-lacking n table rows marks stores = equation (lacks n table rows marks s
 pub gate-gate-of : (n table : ℕ) (rows marks : List ℕ) (stores desk : ℕ) (out : List ℕ)
     → Determines (λ (r : Gate). r ≡ gateOf n table (length rows) (length marks) stores desk (length out))
 gate-gate-of n table rows marks stores desk out = equation (gateOf n table (length rows) (length marks) stores desk (length out))
+
+pub gate-refusal : (time : ℕ) (why : Refusal) → Determines (λ (r : Answer). r ≡ says 0 time (Refused why))
+gate-refusal time why = equation (says 0 time (Refused why))
 
 -- ---- fresh
 pub fresh-fit : (n table rows marks stores : ℕ) → Determines (λ (r : ℕ). r ≡ fitting n table rows marks stores)
@@ -128,7 +138,7 @@ looks-shares opens s marks = equation (sharesSeen opens (s .opens) (desksOf mark
 pub looks-freed-at : (g : GivenUp) (at len : ℕ) → Determines (λ (r : ℕ). r ≡ freedAt g at len)
 looks-freed-at g at len = equation (freedAt g at len)
 
--- ---- steps. Of the stores the first two know the length
+-- ---- takes, yields. Of the stores the first two know the length
 module _ (table : ℕ) (h : Shares) (rows marks : List ℕ) (store-len : ℕ) (who : Name) (x : Arrival) (rest out : List ℕ) where
   abbrev stores : List ℕ
   stores = replicate store-len 0
@@ -136,10 +146,10 @@ module _ (table : ℕ) (h : Shares) (rows marks : List ℕ) (store-len : ℕ) (w
   abbrev after : (q : Head) (l : Arrays) → (stores : List ℕ) → Plan
   after q l stores = laidPlan (placeOf q l) (partPlanned table h (openIn (placeOf q l)) rows marks stores out who x rest)
 
-  pub steps-step : (q : Head) (l : Arrays)
+  pub takes-step : (q : Head) (l : Arrays)
       → Determines (λ (r : Sample × List ℕ × List ℕ × List ℕ). (stores : List ℕ) → length stores ≡ store-len
       → plan (placeOf (r .0 .0 .head) (r .0 .1)) (r .0 .0 .answer) (r .1) (r .2) stores (r .3) ≡ after q l stores)
-  steps-step q l =
+  takes-step q l =
       λ r s a b.
       determined (λ (r : Sample × List ℕ × List ℕ × List ℕ).
       plan (placeOf (r .0 .0 .head) (r .0 .1)) (r .0 .0 .answer) (r .1) (r .2) stores (r .3))
@@ -149,30 +159,30 @@ module _ (table : ℕ) (h : Shares) (rows marks : List ℕ) (store-len : ℕ) (w
   abbrev lost : (stores : List ℕ) → Plan
   lost stores = partPlanned table h closed rows marks stores out who x rest
 
-  pub steps-step-lost : Determines (λ (r : Answer × List ℕ × List ℕ × List ℕ). (stores : List ℕ) → length stores ≡ store-len
+  pub takes-step-lost : Determines (λ (r : Answer × List ℕ × List ℕ × List ℕ). (stores : List ℕ) → length stores ≡ store-len
       → plan (lost stores .place) (r .0) (r .1) (r .2) stores (r .3) ≡ lost stores)
-  steps-step-lost =
+  takes-step-lost =
       λ r s a b.
       determined (λ (r : Answer × List ℕ × List ℕ × List ℕ). plan (lost stores .place) (r .0) (r .1) (r .2) stores (r .3))
       (λ (z : Plan). (z .answer, z .rows, z .marks, z .out)) (λ r. refl)
       (lost stores) r s (a stores (length-replicate store-len 0)) (b stores (length-replicate store-len 0))
 
-pub steps-pass-step : (table : ℕ) (is-open : Bool) (rows marks stores : List ℕ) (who : Name) (x : Reading) (rest out : List ℕ)
+pub yields-pass-step : (table : ℕ) (is-open : Bool) (rows marks stores : List ℕ) (who : Name) (x : Reading) (rest out : List ℕ)
     → Determines (λ (r : Answer × List ℕ × List ℕ × List ℕ × List ℕ). (p : Place) → p .used ≡ is-open
     → plan p (r .0) (r .1) (r .2) (r .3) (r .4) ≡ passPlanned table p rows marks stores out who x rest)
 unfolding bare
-steps-pass-step table is-open rows marks stores who x rest out =
+yields-pass-step table is-open rows marks stores who x rest out =
     let p = any is-open in
     λ r s a b.
     determined (λ (r : Answer × List ℕ × List ℕ × List ℕ × List ℕ). plan p (r .0) (r .1) (r .2) (r .3) (r .4))
     (λ (z : Plan). (z .answer, z .rows, z .marks, z .stores, z .out)) (λ r. refl)
     (passPlanned table p rows marks stores out who x rest) r s (a p refl) (b p refl)
 
-pub steps-yield-step : (table at m : ℕ) (rows marks : List ℕ) (who : Name)
+pub yields-yield-step : (table at m : ℕ) (rows marks : List ℕ) (who : Name)
     → Determines (λ (r : GivenUp × List ℕ × List ℕ). (p : Place) → p .used ≡ (at <? m)
     → yield (placeAfter (r .0) p) (r .0) (r .1) (r .2) ≡ yielding table p rows marks who)
 unfolding bare
-steps-yield-step table at m rows marks who =
+yields-yield-step table at m rows marks who =
     let p = any (at <? m) in
     λ r s a b.
     determined (λ (r : GivenUp × List ℕ × List ℕ). yield (placeAfter (r .0) p) (r .0) (r .1) (r .2))

@@ -7,9 +7,9 @@ const STRING_MOST: usize = 20;
 
 // Of a string in the encoding u: the length of the character at a place, whether it is well-formed, and its boundary within a limit.
 fn show(u: usize, s: &[u8], at: usize, limit: usize) {
-    print::number(text::character(u, s, at));
-    print::answer(text::well_formed(u, s));
-    print::number(text::boundary(u, s, at, limit));
+    print::number(finder::character(u, s, at));
+    print::answer(strings::well_formed(u, s));
+    print::number(strings::boundary(u, s, at, limit));
 }
 
 // `text U AT LIMIT BYTES`.

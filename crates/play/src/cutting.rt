@@ -40,7 +40,7 @@ fn case(u: usize, thirty: &[u8; 30], n: usize, more: usize, m: usize, k: usize) 
     let mut modifiers = [0u8; 1100];
     fill(&mut modifiers, &MODIFIERS);
     let mut out = [0xaau8; 1402];
-    let w = writer::write_sample(
+    let w = writes::write_sample(
         u,
         128,
         90000,
@@ -55,7 +55,7 @@ fn case(u: usize, thirty: &[u8; 30], n: usize, more: usize, m: usize, k: usize) 
 
 // Eight letters that just fit the size limit.
 fn fields(sidx: usize, sdur: usize, out: &mut [u8]) {
-    let w = writer::write_sample(0, sidx, sdur, b"abcdefgh", b"", 17, 1, out);
+    let w = writes::write_sample(0, sidx, sdur, b"abcdefgh", b"", 17, 1, out);
     tell(w, out);
 }
 
@@ -80,7 +80,7 @@ fn description(line: &[u8]) {
     let n = script::number(line, 2);
     let m = script::number(line, 3);
     let k = script::number(line, 4);
-    let w = writer::write_description(sidx, octets::cut(&d, 0, n), m, k, &mut out);
+    let w = describes::write_description(sidx, octets::cut(&d, 0, n), m, k, &mut out);
     tell(w, &out);
 }
 

@@ -61,7 +61,7 @@ fn send(h: Hall, line: &[u8], text: &[u8]) -> Hall {
     let mut out = [0u8; PAYLOAD_MOST];
     let m = script::number(line, 3);
     let k = script::number(line, 4);
-    match writer::write_sample(0, 128, 50, text, &[], m, k, &mut out) {
+    match writes::write_sample(0, 128, 50, text, &[], m, k, &mut out) {
         Written::Payload { len, count: _ } => receive(
             h,
             script::number(line, 1),

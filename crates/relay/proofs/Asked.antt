@@ -23,12 +23,12 @@ use Rattle.memory.specs.Table.{vacant, isAt}
 use Rattle.memory.specs.Relay.{desksOf}
 use Rattle.looks.specs.Looks.{reachOf, reachFor, sharesSeen, Bounded}
 use Rattle.table.specs.Table.{counts, holds, seen}
-use Rattle.table.proofs.len as len
-use Rattle.table.proofs.find as find
-use Rattle.table.proofs.lowest as lowest
-use Rattle.table.proofs.count as count′
-use Rattle.table.proofs.is_open as is-open
-use Rattle.table.proofs.scan as scan
+use Rattle.finds.proofs.len as len
+use Rattle.finds.proofs.find as find
+use Rattle.finds.proofs.lowest as lowest
+use Rattle.counts.proofs.count as count′
+use Rattle.counts.proofs.is_open as is-open
+use Rattle.census.proofs.scan as scan
 use Rattle.looks.proofs.reach as reach
 use Rattle.looks.proofs.reach_for as reach-for
 use Rattle.looks.proofs.shares as shares

@@ -29,13 +29,13 @@ pub fn set_up(
 ) -> Started
     ensures { λ r. ⌜ SetsUp n (lent places rows marks stores) r ⌝ }
 {
-    let len = table::len(places);
+    let len = finds::len(places);
     let r = rows.len();
     let k = marks.len();
     let s = stores.len();
     let made = fresh::fit(n, len, r, k, s);
     let m = fresh::places_of(made);
-    table::clear(places, m);
+    frees::clear(places, m);
     fresh::make_fresh(rows, marks, stores, made);
     fresh::answer_of(made)
 }
@@ -57,9 +57,9 @@ fn join_in(
     requires { ⌜ (len ≡ length (now places)) × ((i < len) × (getD (now places) i closed .used ≡ false → 1 < x .part .total)) ⌝ }
     ensures { λ r. ⌜ JoinsAt i h (lentThree places rows marks) «store_len» who x rest out r ⌝ }
 {
-    let q = table::head(places, i);
+    let q = heads::head(places, i);
     let p = &mut places[i];
-    let t = steps::step(
+    let t = takes::step(
         len,
         h,
         q,
@@ -76,7 +76,7 @@ fn join_in(
         out,
     );
     let u = t.head;
-    table::set_head(places, i, u);
+    heads::set_head(places, i, u);
     t.answer
 }
 
@@ -100,7 +100,7 @@ fn join_at(
     if i < len {
         join_in(places, i, len, h, rows, marks, store_len, who, x, rest, out)
     } else {
-        steps::step_lost(len, h, rows, marks, store_len, who, x, rest, out)
+        takes::step_lost(len, h, rows, marks, store_len, who, x, rest, out)
     }
 }
 
@@ -118,15 +118,15 @@ fn join(
     requires { ⌜ (r ≡ readOf (now rest)) × (isPart (r .unit) ≡ true) ⌝ }
     ensures { λ a. ⌜ Receives (lent places rows marks stores) who rest out a ⌝ }
 {
-    let len = table::len(places);
+    let len = finds::len(places);
     let m = looks::reach(marks, who, len);
-    let at = table::find(places, m, who);
+    let at = finds::find(places, m, who);
     let k = looks::asked(at, m);
-    let opens = table::count(places, k, who, false);
+    let opens = counts::count(places, k, who, false);
     let e = looks::beyond(opens, k);
-    let seen = table::scan(places, e);
+    let seen = census::scan(places, e);
     let h = looks::shares(opens, seen, marks, who);
-    let low = table::lowest(places, k);
+    let low = finds::lowest(places, k);
     let x = asks::arrived(r);
     let i = looks::spot(at, low, m, len, x);
     let s = stores.len();
@@ -147,10 +147,10 @@ fn pass(
     requires { ⌜ (r ≡ readOf (now rest)) × (isPart (r .unit) ≡ false) ⌝ }
     ensures { λ a. ⌜ Receives (lent places rows marks stores) who rest out a ⌝ }
 {
-    let len = table::len(places);
+    let len = finds::len(places);
     let m = looks::reach_for(marks, who, len, r);
-    let is_open = table::is_open(places, m, who);
-    steps::pass_step(len, is_open, rows, marks, stores, who, r, rest, out)
+    let is_open = counts::is_open(places, m, who);
+    yields::pass_step(len, is_open, rows, marks, stores, who, r, rest, out)
 }
 
 // Takes the unit at the front of the rest, which a desk sent at the running time.
@@ -177,12 +177,12 @@ pub fn receive(
 pub fn give_up(places: &mut [Place], rows: &mut [u32], marks: &mut [u32], who: Name) -> GivenUp
     ensures { λ r. ⌜ GivesUp (lentThree places rows marks) who r ⌝ }
 {
-    let len = table::len(places);
+    let len = finds::len(places);
     let m = looks::reach(marks, who, len);
-    let at = table::find(places, m, who);
-    let g = steps::yield_step(len, at, m, rows, marks, who);
+    let at = finds::find(places, m, who);
+    let g = yields::yield_step(len, at, m, rows, marks, who);
     let i = looks::freed_at(g, at, len);
-    table::free(places, m, i);
+    frees::free(places, m, i);
     g
 }
 

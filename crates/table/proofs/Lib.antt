@@ -1,5 +1,3 @@
 pub mod Facts
-pub mod Found
-pub mod Asked
-pub mod Heads
-pub mod Calls
+pub mod Least
+pub mod Held

@@ -19,6 +19,10 @@ use Rattle.writer.specs.declared.PartFound.{PartFound}
 abbrev pub found : (count from to : ℕ) → PartFound
 found n a e = record { count = n; from = a; to = e }
 
+-- the part of s that was found
+abbrev pub foundIn : PartFound → List ℕ → List ℕ
+foundIn f s = part (f .from) (f .to - f .from) s
+
 -- one part, from e to e', is passed: it is counted, and kept if it has the number that is wanted
 unfoldable pub turned : (number : ℕ) → PartFound → (e e' : ℕ) → PartFound
 turned number f e e' = f .count + 1 =? number ⇒ found (f .count + 1) e e' ⁏ found (f .count + 1) (f .from) (f .to)

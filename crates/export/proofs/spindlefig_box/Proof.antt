@@ -3,7 +3,7 @@ use mathlib.Core.Path.{ap, _∙_}
 use denote.Ref.{now}
 use lib.Seq.{sets}
 use Rattle.boxes.specs.declared.Stepped.{Stepped}
-use Rattle.export.specs.Export.{steppedRow}
+use Rattle.numbers.specs.Numbers.{steppedRow}
 use borrow.Author.Needs.{needs}
 use Rattle.export.proofs.spindlefig_box.Statement.{statement}
 use Rattle.export.proofs.spindlefig_box.Tie as tie

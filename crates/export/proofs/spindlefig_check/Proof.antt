@@ -3,7 +3,7 @@ use mathlib.Core.Path.{ap, _∙_}
 use denote.Ref.{now}
 use lib.Seq.{sets}
 use Rattle.style.specs.declared.Checked.{Checked}
-use Rattle.export.specs.Export.{checkedRow}
+use Rattle.numbers.specs.Numbers.{checkedRow}
 use borrow.Author.Needs.{needs}
 use Rattle.export.proofs.spindlefig_check.Statement.{statement}
 use Rattle.export.proofs.spindlefig_check.Tie as tie

@@ -29,20 +29,21 @@ use Rattle.paper.specs.declared.Name.{Name}
 use Rattle.desk.specs.declared.GivenUp.{GivenUp}
 use Rattle.desk.specs.Desk.{givenUpNumber}
 use Rattle.memory.specs.Relay.{released, givenUpAt, tables as lent-tables}
-use Rattle.export.specs.Export.{nameOf, releasedAs}
+use Rattle.numbers.specs.Numbers.{nameOf}
+use Rattle.export.specs.Export.{releasedAs}
 use Rattle.relay.proofs.Values.{name, given-up}
-use Rattle.export.proofs.name_of as pack′
-use Rattle.export.proofs.name_of.Symbol as pack′-def
-use Rattle.export.proofs.name_of.Symbol.{name as #pack′}
-use Rattle.export.proofs.name_of.Met as pack′-thm
+use Rattle.numbers.proofs.name_of as pack′
+use Rattle.numbers.proofs.name_of.Symbol as pack′-def
+use Rattle.numbers.proofs.name_of.Symbol.{name as #pack′}
+use Rattle.numbers.proofs.name_of.Met as pack′-thm
 use Rattle.relay.proofs.give_up as main′
 use Rattle.relay.proofs.give_up.Symbol as main′-def
 use Rattle.relay.proofs.give_up.Symbol.{name as #main′}
 use Rattle.relay.proofs.give_up.Met as main′-thm
-use Rattle.export.proofs.given_up_number as last′
-use Rattle.export.proofs.given_up_number.Symbol as last′-def
-use Rattle.export.proofs.given_up_number.Symbol.{name as #last′}
-use Rattle.export.proofs.given_up_number.Met as last′-thm
+use Rattle.numbers.proofs.given_up_number as last′
+use Rattle.numbers.proofs.given_up_number.Symbol as last′-def
+use Rattle.numbers.proofs.given_up_number.Symbol.{name as #last′}
+use Rattle.numbers.proofs.given_up_number.Met as last′-thm
 use Rattle.export.proofs.spindlefig_give_up.Key.{name as #export·spindlefig-give-up}
 use Rattle.export.proofs.spindlefig_give_up as me
 use Rattle.export.proofs.spindlefig_give_up.Statement as stated
@@ -95,7 +96,7 @@ module _ {M : Type 1} (𝓤 : URA M) (H : Heap 𝓤) (A : Atoms 𝓤) (mem : Mem
     walk : Begins 𝓤 H A Mine W 𝓣 code.function κs qs tt a tt b
     walk =
         -- [the frame; the tokens; the slices]
-        -- `export::name_of`
+        -- `numbers::name_of`
         calls-known ! (fmOf 𝓤 H (W .laws) 𝓣) Pack known-pack tt tt tt (a .1 .1 .1) (valued-of 𝓤 H A Mine κs a .1 .1 .1) tt (id⊢ 𝓤 _)
         (are .1 .1 .1) who (λ x _. id⊢ 𝓤 _) (0 ∷ []) refl refl tt refl (λ _ is-who _.
         reborrows ! (are .0 .0 .1 .0) refl tt $ reborrows ! (are .1 .0 .0 .1 .0) refl tt $ reborrows ! (are .1 .1 .0 .0 .1 .0) refl tt $
@@ -105,7 +106,7 @@ module _ {M : Type 1} (𝓤 : URA M) (H : Heap 𝓤) (A : Atoms 𝓤) (mem : Mem
         (id⊢ 𝓤 _) (is-who, tt)
         (λ r ws. Left-is r (ws .0) (ws .1 .0) (ws .1 .1 .0)) (λ r ws. id⊢ 𝓤 _) (0 ∷ 1 ∷ 2 ∷ 3 ∷ 4 ∷ 5 ∷ 6 ∷ []) refl refl tt refl
         (λ r ws is-r e long.
-        -- `export::given_up_number`
+        -- `numbers::given_up_number`
         calls-known ! (fmOf 𝓤 H (W .laws) 𝓣) Last known-last tt tt tt (r, tt) (given-up .val r ∷ [], tt) tt (id⊢ 𝓤 _) (is-r, tt)
         (givenUpNumber r) (λ x _. id⊢ 𝓤 _) (0 ∷ []) refl refl tt refl (λ _ is-x _.
         leaves ! Mine κs qs tt a (valued-of 𝓤 H A Mine κs a) tt (givenUpNumber r) (ws .0, (ws .1 .0, (ws .1 .1 .0, (tt, (tt, tt))))) is-x
@@ -119,9 +120,9 @@ spindlefig-give-up-spec 𝓤 H 𝓜 𝓖 𝓡 =
     (tt, λ κs b. refl)
     (λ κs a qs _ _. walk 𝓤 H (𝓖 .A) (𝓜 .mem) (𝓡 .run) (givenOf 𝓤 H 𝓜 𝓖) (tablesOf 𝓤 H 𝓜 (tables 𝓤 H 𝓜 𝓡 code.env))
     (cited 𝓤 H (contractOf 𝓤 H (𝓖 .A) (Pack 𝓤 H (𝓖 .A) (𝓜 .mem) (𝓡 .run))) 𝓜 𝓡 code.env #pack′ pack′-def.routine
-    code.calls-export·name-of (pack′-thm.met 𝓤 H 𝓜 𝓖 𝓡))
+    code.calls-numbers·name-of (pack′-thm.met 𝓤 H 𝓜 𝓖 𝓡))
     (cited 𝓤 H (contractOf 𝓤 H (𝓖 .A) (Main 𝓤 H (𝓖 .A) (𝓜 .mem) (𝓡 .run))) 𝓜 𝓡 code.env #main′ main′-def.routine
     code.calls-relay·give-up (main′-thm.met 𝓤 H 𝓜 𝓖 𝓡))
     (cited 𝓤 H (contractOf 𝓤 H (𝓖 .A) (Last 𝓤 H (𝓖 .A) (𝓜 .mem) (𝓡 .run))) 𝓜 𝓡 code.env #last′ last′-def.routine
-    code.calls-export·given-up-number (last′-thm.met 𝓤 H 𝓜 𝓖 𝓡))
+    code.calls-numbers·given-up-number (last′-thm.met 𝓤 H 𝓜 𝓖 𝓡))
     κs qs a)

@@ -31,20 +31,22 @@ use denote.Slice.{slice-vals}
 use Rattle.paper.specs.declared.Name.{Name}
 use Rattle.paper.specs.declared.Answer.{Answer}
 use Rattle.memory.specs.Relay.{Done, done as done-of, receivedAt, tables as lent-tables}
-use Rattle.export.specs.Export.{nameOf, answerRow, rowed, doneAs}
+use Rattle.numbers.specs.Numbers.{nameOf}
+use Rattle.answers.specs.Answers.{answerRow}
+use Rattle.export.specs.Export.{rowed, doneAs}
 use Rattle.relay.proofs.Values.{name, answer}
-use Rattle.export.proofs.name_of as pack′
-use Rattle.export.proofs.name_of.Symbol as pack′-def
-use Rattle.export.proofs.name_of.Symbol.{name as #pack′}
-use Rattle.export.proofs.name_of.Met as pack′-thm
+use Rattle.numbers.proofs.name_of as pack′
+use Rattle.numbers.proofs.name_of.Symbol as pack′-def
+use Rattle.numbers.proofs.name_of.Symbol.{name as #pack′}
+use Rattle.numbers.proofs.name_of.Met as pack′-thm
 use Rattle.relay.proofs.receive as main′
 use Rattle.relay.proofs.receive.Symbol as main′-def
 use Rattle.relay.proofs.receive.Symbol.{name as #main′}
 use Rattle.relay.proofs.receive.Met as main′-thm
-use Rattle.export.proofs.put_answer as last′
-use Rattle.export.proofs.put_answer.Symbol as last′-def
-use Rattle.export.proofs.put_answer.Symbol.{name as #last′}
-use Rattle.export.proofs.put_answer.Met as last′-thm
+use Rattle.answers.proofs.put_answer as last′
+use Rattle.answers.proofs.put_answer.Symbol as last′-def
+use Rattle.answers.proofs.put_answer.Symbol.{name as #last′}
+use Rattle.answers.proofs.put_answer.Met as last′-thm
 use Rattle.export.proofs.spindlefig_receive.Key.{name as #export·spindlefig-receive}
 use Rattle.export.proofs.spindlefig_receive as me
 use Rattle.export.proofs.spindlefig_receive.Statement as stated
@@ -112,7 +114,7 @@ module _ {M : Type 1} (𝓤 : URA M) (H : Heap 𝓤) (A : Atoms 𝓤) (mem : Mem
     walk : Begins 𝓤 H A Mine W 𝓣 code.function κs qs tt a tt b
     walk =
         -- [the frame; the tokens; the slices]
-        -- `export::name_of`
+        -- `numbers::name_of`
         calls-known ! (fmOf 𝓤 H (W .laws) 𝓣) Pack known-pack tt tt tt (a .1 .1 .1 .1 .0, (a .1 .1 .1 .1 .1 .0, tt))
         (vs .1 .1 .1 .1 .0, (vs .1 .1 .1 .1 .1 .0, tt)) tt
         (id⊢ 𝓤 _) (are .1 .1 .1 .1 .0, (are .1 .1 .1 .1 .1 .0, tt)) who (λ x _. id⊢ 𝓤 _) (0 ∷ []) refl refl tt refl (λ _ is-who _.
@@ -140,7 +142,7 @@ module _ {M : Type 1} (𝓤 : URA M) (H : Heap 𝓤) (A : Atoms 𝓤) (mem : Mem
         (0 ∷ 1 ∷ 2 ∷ 3 ∷ 4 ∷ 5 ∷ 6 ∷ 8 ∷ 9 ∷ 10 ∷ 11 ∷ 12 ∷ 13 ∷ []) refl refl tt refl (λ r ws is-r e long.
         -- [the frame; six tokens; what says each last list; the token of the row; the row]
         reborrows ! (are .1 .1 .1 .1 .1 .1 .1 .1 .0 .0 .1 .0) refl tt $
-        -- `export::put_answer`
+        -- `answers::put_answer`
         calls-lent ! (fmOf 𝓤 H (W .laws) 𝓣) Last known-last (κs .1 .1 .1 .1 .1 .1) (qs .1 .1 .1 .1 .1 .1) tt (row, (r, tt))
         (slice-vals row, (answer .val r ∷ [], tt)) tt
         (id⊢ 𝓤 _) (is-r, tt) (λ x ks. (x ≡ r .used) × (ks .0 ≡ sets (now row) 0 (answerRow r))) (λ x ks. id⊢ 𝓤 _) (0 ∷ 12 ∷ 13 ∷ []) refl
@@ -169,9 +171,9 @@ spindlefig-receive-spec 𝓤 H 𝓜 𝓖 𝓡 =
     (tt, λ κs b. refl)
     (λ κs a qs _ _. walk 𝓤 H (𝓖 .A) (𝓜 .mem) (𝓡 .run) (givenOf 𝓤 H 𝓜 𝓖) (tablesOf 𝓤 H 𝓜 (tables 𝓤 H 𝓜 𝓡 code.env))
     (cited 𝓤 H (contractOf 𝓤 H (𝓖 .A) (Pack 𝓤 H (𝓖 .A) (𝓜 .mem) (𝓡 .run))) 𝓜 𝓡 code.env #pack′ pack′-def.routine
-    code.calls-export·name-of (pack′-thm.met 𝓤 H 𝓜 𝓖 𝓡))
+    code.calls-numbers·name-of (pack′-thm.met 𝓤 H 𝓜 𝓖 𝓡))
     (cited 𝓤 H (contractOf 𝓤 H (𝓖 .A) (Main 𝓤 H (𝓖 .A) (𝓜 .mem) (𝓡 .run))) 𝓜 𝓡 code.env #main′ main′-def.routine
     code.calls-relay·receive (main′-thm.met 𝓤 H 𝓜 𝓖 𝓡))
     (cited 𝓤 H (contractOf 𝓤 H (𝓖 .A) (Last 𝓤 H (𝓖 .A) (𝓜 .mem) (𝓡 .run))) 𝓜 𝓡 code.env #last′ last′-def.routine
-    code.calls-export·put-answer (last′-thm.met 𝓤 H 𝓜 𝓖 𝓡))
+    code.calls-answers·put-answer (last′-thm.met 𝓤 H 𝓜 𝓖 𝓡))
     κs qs a)

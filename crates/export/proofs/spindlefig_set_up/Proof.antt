@@ -33,10 +33,10 @@ use Rattle.relay.proofs.set_up as main′
 use Rattle.relay.proofs.set_up.Symbol as main′-def
 use Rattle.relay.proofs.set_up.Symbol.{name as #main′}
 use Rattle.relay.proofs.set_up.Met as main′-thm
-use Rattle.export.proofs.started_number as last′
-use Rattle.export.proofs.started_number.Symbol as last′-def
-use Rattle.export.proofs.started_number.Symbol.{name as #last′}
-use Rattle.export.proofs.started_number.Met as last′-thm
+use Rattle.numbers.proofs.started_number as last′
+use Rattle.numbers.proofs.started_number.Symbol as last′-def
+use Rattle.numbers.proofs.started_number.Symbol.{name as #last′}
+use Rattle.numbers.proofs.started_number.Met as last′-thm
 use Rattle.export.proofs.spindlefig_set_up.Key.{name as #export·spindlefig-set-up}
 use Rattle.export.proofs.spindlefig_set_up as me
 use Rattle.export.proofs.spindlefig_set_up.Statement as stated
@@ -82,7 +82,7 @@ module _ {M : Type 1} (𝓤 : URA M) (H : Heap 𝓤) (A : Atoms 𝓤) (mem : Mem
         calls-lent ! (fmOf 𝓤 H (W .laws) 𝓣) Main known-main κs qs tt a (valued-of 𝓤 H A Mine κs a) tt (id⊢ 𝓤 _) (are .0, tt)
         (λ r ws. Left-is r (ws .1 .0) (ws .1 .1 .0) (ws .1 .1 .1 .0) (ws .1 .1 .1 .1 .0)) (λ r ws. id⊢ 𝓤 _)
         (0 ∷ 1 ∷ 2 ∷ 3 ∷ 4 ∷ 5 ∷ 6 ∷ 7 ∷ 8 ∷ []) refl refl tt refl (λ r ws is-r e long.
-        -- `export::started_number`
+        -- `numbers::started_number`
         calls-known ! (fmOf 𝓤 H (W .laws) 𝓣) Last known-last tt tt tt (r, tt) (started .val r ∷ [], tt) tt (id⊢ 𝓤 _) (is-r, tt)
         (startedNumber r) (λ x _. id⊢ 𝓤 _) (0 ∷ []) refl refl tt refl (λ _ is-x _.
         leaves ! Mine κs qs tt a (valued-of 𝓤 H A Mine κs a) tt (startedNumber r) ws is-x long (factI 𝓤 _ (emp 𝓤) (ap startedAs e))
@@ -97,5 +97,5 @@ spindlefig-set-up-spec 𝓤 H 𝓜 𝓖 𝓡 =
     (cited 𝓤 H (contractOf 𝓤 H (𝓖 .A) (Main 𝓤 H (𝓖 .A) (𝓜 .mem) (𝓡 .run))) 𝓜 𝓡 code.env #main′ main′-def.routine
     code.calls-relay·set-up (main′-thm.met 𝓤 H 𝓜 𝓖 𝓡))
     (cited 𝓤 H (contractOf 𝓤 H (𝓖 .A) (Last 𝓤 H (𝓖 .A) (𝓜 .mem) (𝓡 .run))) 𝓜 𝓡 code.env #last′ last′-def.routine
-    code.calls-export·started-number (last′-thm.met 𝓤 H 𝓜 𝓖 𝓡))
+    code.calls-numbers·started-number (last′-thm.met 𝓤 H 𝓜 𝓖 𝓡))
     κs qs a)

@@ -41,16 +41,17 @@ use Rattle.sample.specs.Place.{closed}
 use Rattle.sample.proofs.Place as P
 use Rattle.desk.specs.declared.GivenUp.{GivenUp}
 use Rattle.table.specs.Table.{stored}
-use Rattle.table.proofs.Calls.{KnowsLen, KnowsFind, KnowsFree, knows-len, knows-find, knows-free, calls-free}
+use Rattle.finds.proofs.Calls.{KnowsLen, KnowsFind, knows-len, knows-find}
+use Rattle.frees.proofs.Calls.{KnowsFree, knows-free, calls-free}
 use Rattle.memory.specs.Table.{isAt}
 use Rattle.memory.specs.Relay.{desksOf, tables as lent-tables}
 use Rattle.looks.specs.Looks.{reachOf, freedAt}
 use Rattle.steps.specs.Plan.{yield, yielding, placeAfter}
 use Rattle.steps.specs.Back.{given-up-is}
-use Rattle.steps.proofs.yield_step as yield′
-use Rattle.steps.proofs.yield_step.Symbol as yield′-def
-use Rattle.steps.proofs.yield_step.Symbol.{name as #yield′}
-use Rattle.steps.proofs.yield_step.Met as yield′-thm
+use Rattle.yields.proofs.yield_step as yield′
+use Rattle.yields.proofs.yield_step.Symbol as yield′-def
+use Rattle.yields.proofs.yield_step.Symbol.{name as #yield′}
+use Rattle.yields.proofs.yield_step.Met as yield′-thm
 use Rattle.relay.proofs.Calls.{KnowsReach, KnowsFreedAt, knows-reach, knows-freed-at}
 use Rattle.relay.proofs.Asked.{Len, Find, Reach, FreedAt}
 use Rattle.relay.proofs.give_up.Key.{name as #relay·give-up}
@@ -129,7 +130,7 @@ module _ {M : Type 1} (𝓤 : URA M) (H : Heap 𝓤) (A : Atoms 𝓤) (mem : Mem
         calls-shown ! fm (Find 𝓤 H A mem run) known-find (κs .0) (qs .0) places tt (m, (who, tt)) tt (is-m, (are .1 .1 .1 .0, tt)) tt
         refl tt refl (λ is-at.
         reborrows ! (are .1 .0 .0 .1 .0) refl tt $ reborrows ! (are .1 .1 .0 .0 .1 .0) refl tt $
-        -- `steps::yield_step`
+        -- `yields::yield_step`
         calls-lent ! fm Yield known-yield (κs .1) (qs .1) tt (len, (at, (m, a .1)))
         (vint w64 len ∷ [], (vint w64 at ∷ [], (vint w64 m ∷ [], vs .1))) tt (id⊢ 𝓤 _) (is-len, (is-at, (is-m, (are .1 .1 .1 .0, tt))))
         (λ g ws. Yielded g (ws .1 .1 .1 .0) (ws .1 .1 .1 .1 .0)) (λ g ws. id⊢ 𝓤 _) (0 ∷ 5 ∷ 4 ∷ 6 ∷ 3 ∷ []) refl refl tt refl
@@ -139,7 +140,7 @@ module _ {M : Type 1} (𝓤 : URA M) (H : Heap 𝓤) (A : Atoms 𝓤) (mem : Mem
         (valued-of 𝓤 H A (FreedAt 𝓤 H A mem run) tt (g, (at, (len, tt)))) tt (id⊢ 𝓤 _) (is-g, (is-at, (is-len, tt))) (freedAt g at len)
         (λ _ _. id⊢ 𝓤 _) (0 ∷ []) refl refl tt refl (λ _ is-i _.
         reborrows ! (are .0 .0 .1 .0) refl tt $
-        -- `table::free`
+        -- `frees::free`
         move ! (5 ∷ 6 ∷ 0 ∷ []) $ calls-free ! mem run fm known-free (κs .0) (qs .0) (named-as places) (ptr places .0)
         (ptr places .1)
         (now places) (now places) m (freedAt g at len) (is-m .1) (is-i .1) (λ ν δ. reads-all ! 2 refl refl) (λ r v is-r.
@@ -161,8 +162,8 @@ unfolding code.routine tablesOf
 give-up-spec 𝓤 H 𝓜 𝓖 𝓡 =
     proved-by 𝓤 H 𝓜 𝓖 𝓡 code.env (Mine 𝓤 H (𝓖 .A) (𝓜 .mem) (𝓡 .run)) #relay·give-up code.function (code.unfolded 𝓤 H 𝓜 𝓡) (tt, λ κs b. refl)
     (λ κs a qs _ _. walk 𝓤 H (𝓖 .A) (𝓜 .mem) (𝓡 .run) (givenOf 𝓤 H 𝓜 𝓖) (tablesOf 𝓤 H 𝓜 (tables 𝓤 H 𝓜 𝓡 code.env))
-    (knows-len 𝓤 H 𝓜 𝓖 𝓡 code.env code.calls-table·len) (knows-reach 𝓤 H 𝓜 𝓖 𝓡 code.env code.calls-looks·reach)
-    (knows-find 𝓤 H 𝓜 𝓖 𝓡 code.env code.calls-table·find) (knows-freed-at 𝓤 H 𝓜 𝓖 𝓡 code.env code.calls-looks·freed-at)
-    (knows-free 𝓤 H 𝓜 𝓖 𝓡 code.env code.calls-table·free)
+    (knows-len 𝓤 H 𝓜 𝓖 𝓡 code.env code.calls-finds·len) (knows-reach 𝓤 H 𝓜 𝓖 𝓡 code.env code.calls-looks·reach)
+    (knows-find 𝓤 H 𝓜 𝓖 𝓡 code.env code.calls-finds·find) (knows-freed-at 𝓤 H 𝓜 𝓖 𝓡 code.env code.calls-looks·freed-at)
+    (knows-free 𝓤 H 𝓜 𝓖 𝓡 code.env code.calls-frees·free)
     (cited 𝓤 H (contractOf 𝓤 H (𝓖 .A) (Yield 𝓤 H (𝓖 .A) (𝓜 .mem) (𝓡 .run))) 𝓜 𝓡 code.env #yield′ yield′-def.routine
-    code.calls-steps·yield-step (yield′-thm.met 𝓤 H 𝓜 𝓖 𝓡)) κs qs a)
+    code.calls-yields·yield-step (yield′-thm.met 𝓤 H 𝓜 𝓖 𝓡)) κs qs a)

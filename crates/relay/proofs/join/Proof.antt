@@ -48,8 +48,9 @@ use Rattle.looks.specs.Looks.{reachOf, askedOf, beyondOf, sharesSeen, spotOf}
 use Rattle.steps.specs.Kept.{joinedAt}
 use Rattle.steps.specs.Found.{bounded-seen, beyond-most}
 use Rattle.steps.specs.Back.{spot-opens, joined-is}
-use Rattle.table.proofs.Calls.{KnowsLen, KnowsFind, KnowsCount, KnowsScan, KnowsLowest}
-use Rattle.table.proofs.Calls.{knows-len, knows-find, knows-count, knows-scan, knows-lowest}
+use Rattle.finds.proofs.Calls.{KnowsLen, KnowsFind, KnowsLowest, knows-len, knows-find, knows-lowest}
+use Rattle.counts.proofs.Calls.{KnowsCount, knows-count}
+use Rattle.census.proofs.Calls.{KnowsScan, knows-scan}
 use Rattle.relay.proofs.Calls.{KnowsReach, KnowsAsked, KnowsBeyond, KnowsSharesOf, KnowsArrived, KnowsSpotOf}
 use Rattle.relay.proofs.Calls.{knows-reach, knows-asked, knows-beyond, knows-shares, knows-arrived, knows-spot}
 use Rattle.relay.proofs.Values.{name, answer, share, arrival, reading}
@@ -206,11 +207,11 @@ join-spec 𝓤 H 𝓜 𝓖 𝓡 =
     proved-under 𝓤 H 𝓜 𝓖 𝓡 code.env (Mine 𝓤 H (𝓖 .A) (𝓜 .mem) (𝓡 .run)) #relay·join code.function (code.unfolded 𝓤 H 𝓜 𝓡)
     (tt, λ κs b. refl) Need (λ κs a g. id⊢ 𝓤 _)
     (λ κs a need qs _ _. walk 𝓤 H (𝓖 .A) (𝓜 .mem) (𝓡 .run) (givenOf 𝓤 H 𝓜 𝓖) (tablesOf 𝓤 H 𝓜 (tables 𝓤 H 𝓜 𝓡 code.env))
-    (knows-len 𝓤 H 𝓜 𝓖 𝓡 code.env code.calls-table·len) (knows-reach 𝓤 H 𝓜 𝓖 𝓡 code.env code.calls-looks·reach)
-    (knows-find 𝓤 H 𝓜 𝓖 𝓡 code.env code.calls-table·find) (knows-asked 𝓤 H 𝓜 𝓖 𝓡 code.env code.calls-looks·asked)
-    (knows-count 𝓤 H 𝓜 𝓖 𝓡 code.env code.calls-table·count) (knows-beyond 𝓤 H 𝓜 𝓖 𝓡 code.env code.calls-looks·beyond)
-    (knows-scan 𝓤 H 𝓜 𝓖 𝓡 code.env code.calls-table·scan) (knows-shares 𝓤 H 𝓜 𝓖 𝓡 code.env code.calls-looks·shares)
-    (knows-lowest 𝓤 H 𝓜 𝓖 𝓡 code.env code.calls-table·lowest) (knows-arrived 𝓤 H 𝓜 𝓖 𝓡 code.env code.calls-asks·arrived)
+    (knows-len 𝓤 H 𝓜 𝓖 𝓡 code.env code.calls-finds·len) (knows-reach 𝓤 H 𝓜 𝓖 𝓡 code.env code.calls-looks·reach)
+    (knows-find 𝓤 H 𝓜 𝓖 𝓡 code.env code.calls-finds·find) (knows-asked 𝓤 H 𝓜 𝓖 𝓡 code.env code.calls-looks·asked)
+    (knows-count 𝓤 H 𝓜 𝓖 𝓡 code.env code.calls-counts·count) (knows-beyond 𝓤 H 𝓜 𝓖 𝓡 code.env code.calls-looks·beyond)
+    (knows-scan 𝓤 H 𝓜 𝓖 𝓡 code.env code.calls-census·scan) (knows-shares 𝓤 H 𝓜 𝓖 𝓡 code.env code.calls-looks·shares)
+    (knows-lowest 𝓤 H 𝓜 𝓖 𝓡 code.env code.calls-finds·lowest) (knows-arrived 𝓤 H 𝓜 𝓖 𝓡 code.env code.calls-asks·arrived)
     (knows-spot 𝓤 H 𝓜 𝓖 𝓡 code.env code.calls-looks·spot)
     (cited 𝓤 H (contractOf 𝓤 H (𝓖 .A) (Last 𝓤 H (𝓖 .A) (𝓜 .mem) (𝓡 .run))) 𝓜 𝓡 code.env #last′ last′-def.routine
     code.calls-relay·join-at (last′-thm.met 𝓤 H 𝓜 𝓖 𝓡)) κs qs (a .0) (a .1 .0) (a .1 .1 .0) (a .1 .1 .1 .0) (a .1 .1 .1 .1 .0)

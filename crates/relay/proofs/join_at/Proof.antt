@@ -42,10 +42,10 @@ use Rattle.asks.specs.declared.Arrival.{Arrival}
 use Rattle.memory.specs.Relay.{tables as lent-tables, done as done-of}
 use Rattle.steps.specs.Plan.{plan, partPlanned}
 use Rattle.steps.specs.Kept.{joinedAt, lost-done}
-use Rattle.steps.proofs.step_lost as lost′
-use Rattle.steps.proofs.step_lost.Symbol as lost′-def
-use Rattle.steps.proofs.step_lost.Symbol.{name as #lost′}
-use Rattle.steps.proofs.step_lost.Met as lost′-thm
+use Rattle.takes.proofs.step_lost as lost′
+use Rattle.takes.proofs.step_lost.Symbol as lost′-def
+use Rattle.takes.proofs.step_lost.Symbol.{name as #lost′}
+use Rattle.takes.proofs.step_lost.Met as lost′-thm
 use Rattle.relay.proofs.join_in as in′
 use Rattle.relay.proofs.join_in.Symbol as in′-def
 use Rattle.relay.proofs.join_in.Symbol.{name as #in′}
@@ -200,7 +200,7 @@ module _ {M : Type 1} (𝓤 : URA M) (H : Heap 𝓤) (A : Atoms 𝓤) (mem : Mem
         (λ over.
         reborrows ! (are .1 .1 .1 .1 .0 .0 .1 .0) refl tt $ reborrows ! (are .1 .1 .1 .1 .1 .0 .0 .1 .0) refl tt $
         reborrows ! (are .1 .1 .1 .1 .1 .1 .1 .1 .1 .1 .0 .0 .1 .0) refl tt $ goes-on ! pieces.t-3 After $
-        -- `steps::step_lost`
+        -- `takes::step_lost`
         calls-lent ! (fmOf 𝓤 H (W .laws) 𝓣) (StepLost 𝓤 H A mem run) known-lost (κs .1) (qs .1) tt (a .1 .1) (vs .1 .1) tt (id⊢ 𝓤 _)
         (are .1 .1 .0, (are .1 .1 .1 .0, (are .1 .1 .1 .1 .1 .1 .0, (are .1 .1 .1 .1 .1 .1 .1 .0, (are .1 .1 .1 .1 .1 .1 .1 .1 .0, tt)))))
         (λ r ws. Lost r (ws .1 .1 .0) (ws .1 .1 .1 .0) (ws .1 .1 .1 .1 .1 .1 .1 .1 .0)) (λ r ws. id⊢ 𝓤 _)
@@ -221,4 +221,4 @@ join-at-spec 𝓤 H 𝓜 𝓖 𝓡 =
     (cited 𝓤 H (contractOf 𝓤 H (𝓖 .A) (JoinIn 𝓤 H (𝓖 .A) (𝓜 .mem) (𝓡 .run))) 𝓜 𝓡 code.env #in′ in′-def.routine
     code.calls-relay·join-in (in′-thm.met 𝓤 H 𝓜 𝓖 𝓡))
     (cited 𝓤 H (contractOf 𝓤 H (𝓖 .A) (StepLost 𝓤 H (𝓖 .A) (𝓜 .mem) (𝓡 .run))) 𝓜 𝓡 code.env #lost′ lost′-def.routine
-    code.calls-steps·step-lost (lost′-thm.met 𝓤 H 𝓜 𝓖 𝓡)) κs qs a need)
+    code.calls-takes·step-lost (lost′-thm.met 𝓤 H 𝓜 𝓖 𝓡)) κs qs a need)

@@ -61,13 +61,13 @@ use Rattle.asks.proofs.Settled as St
 use Rattle.asks.proofs.Settled.Laws as St′
 use Rattle.memory.specs.Relay.{tables as lent-tables, done as done-of}
 use Rattle.table.specs.Table.{headed}
-use Rattle.table.proofs.Calls.{KnowsHead, KnowsSetHead, knows-head, knows-set-head, calls-head, calls-set-head}
+use Rattle.heads.proofs.Calls.{KnowsHead, KnowsSetHead, knows-head, knows-set-head, calls-head, calls-set-head}
 use Rattle.steps.specs.Plan.{plan, partPlanned, laidPlan}
 use Rattle.steps.specs.Kept.{joinedAt, kept-done}
-use Rattle.steps.proofs.step as step′
-use Rattle.steps.proofs.step.Symbol as step′-def
-use Rattle.steps.proofs.step.Symbol.{name as #step′}
-use Rattle.steps.proofs.step.Met as step′-thm
+use Rattle.takes.proofs.step as step′
+use Rattle.takes.proofs.step.Symbol as step′-def
+use Rattle.takes.proofs.step.Symbol.{name as #step′}
+use Rattle.takes.proofs.step.Met as step′-thm
 use Rattle.relay.proofs.join_in.Key.{name as #relay·join-in}
 use Rattle.relay.proofs.join_in as me
 use Rattle.relay.proofs.join_in.Statement as stated
@@ -293,7 +293,7 @@ module _ {M : Type 1} (𝓤 : URA M) (H : Heap 𝓤) (A : Atoms 𝓤) (mem : Mem
     walk =
         -- [the frame; the tokens; the places, the rows, the marks, the rest, the output]
         reborrows ! (room-places .0) refl tt $
-        -- `table::head`
+        -- `heads::head`
         move ! (6 ∷ 1 ∷ []) $ calls-head ! mem run (fmOf 𝓤 H (W .laws) 𝓣) known-head (κs .0) (qs .0) (named-as places) c o
         (now places) i (are .1 .0 .1) in-table (λ ν δ. reads-all ! 2 refl refl) (λ is-q.
         move ! (2 ∷ []) $ lands-in ! tt (typed-as W head _ (headOf p) _ refl is-q) $
@@ -323,7 +323,7 @@ module _ {M : Type 1} (𝓤 : URA M) (H : Heap 𝓤) (A : Atoms 𝓤) (mem : Mem
         (p .lens) (map-id (p .lens)) (arrays-fit p is .1 .1 .0) (λ ν₃ δ₃.
         move ! (9 ∷ []) $ lent-field ! tt (bytes .row) (bytes .makes 𝓤 H A W) (λ xs. bytes .val xs ∷ []) c (at + 448) _
         (p .bytes) (map-id (p .bytes)) (arrays-fit p is .1 .1 .1 .0) (λ ν₄ δ₄.
-        -- `steps::step`
+        -- `takes::step`
         let are₆ = are .1 .1 .1 .1 .1 .1 in
         calls-lent ! (fmOf 𝓤 H (W .laws) 𝓣) (Step 𝓤 H A mem run) known-step (ν₁ ∷ [], (ν₂ ∷ [], (ν₃ ∷ [], (ν₄ ∷ [], κs .1))))
         (fullShare, (fullShare, (fullShare, (fullShare, qs .1)))) tt
@@ -360,7 +360,7 @@ module _ {M : Type 1} (𝓤 : URA M) (H : Heap 𝓤) (A : Atoms 𝓤) (mem : Mem
         (look-in ! 0 (sub ! 0 {τ = head .ty} {d = 0} refl (within ! 14 tt refl))))) tt
         (typed-as W head _ (r .head) _ refl (settled-fits r is-r .0)) $
         reborrows ! (room-places .0) refl tt $
-        -- `table::set_head`
+        -- `heads::set_head`
         move ! (1 ∷ 2 ∷ []) $ calls-set-head ! mem run (fmOf 𝓤 H (W .laws) 𝓣) known-set-head (κs .0) (qs .0) (named-as places) c o
         (now places) (written r ws) i (r .head) (are .1 .0 .1) (settled-fits r is-r .0)
         (subst (λ (n : ℕ). i < n) (sym (long-written r ws)) in-table) (λ ν δ. reads-all ! 2 refl refl) (λ nil u is-nil.
@@ -379,7 +379,7 @@ join-in-spec 𝓤 H 𝓜 𝓖 𝓡 =
     (tt, λ κs b. refl)
     Need (λ κs a g. id⊢ 𝓤 _)
     (λ κs a need qs _ _. walk 𝓤 H (𝓖 .A) (𝓜 .mem) (𝓡 .run) (givenOf 𝓤 H 𝓜 𝓖) (tablesOf 𝓤 H 𝓜 (tables 𝓤 H 𝓜 𝓡 code.env))
-    (knows-head 𝓤 H 𝓜 𝓖 𝓡 code.env code.calls-table·head)
+    (knows-head 𝓤 H 𝓜 𝓖 𝓡 code.env code.calls-heads·head)
     (cited 𝓤 H (contractOf 𝓤 H (𝓖 .A) (Step 𝓤 H (𝓖 .A) (𝓜 .mem) (𝓡 .run))) 𝓜 𝓡 code.env #step′ step′-def.routine
-    code.calls-steps·step (step′-thm.met 𝓤 H 𝓜 𝓖 𝓡))
-    (knows-set-head 𝓤 H 𝓜 𝓖 𝓡 code.env code.calls-table·set-head) κs qs a need)
+    code.calls-takes·step (step′-thm.met 𝓤 H 𝓜 𝓖 𝓡))
+    (knows-set-head 𝓤 H 𝓜 𝓖 𝓡 code.env code.calls-heads·set-head) κs qs a need)

@@ -41,11 +41,12 @@ use Rattle.looks.specs.Looks.{reachFor}
 use Rattle.steps.specs.Plan.{plan, passPlanned}
 use Rattle.steps.specs.Back.{passed-is}
 use Rattle.table.specs.Table.{holds}
-use Rattle.table.proofs.Calls.{KnowsLen, KnowsIsOpen, knows-len, knows-is-open}
-use Rattle.steps.proofs.pass_step as last′
-use Rattle.steps.proofs.pass_step.Symbol as last′-def
-use Rattle.steps.proofs.pass_step.Symbol.{name as #last′}
-use Rattle.steps.proofs.pass_step.Met as last′-thm
+use Rattle.finds.proofs.Calls.{KnowsLen, knows-len}
+use Rattle.counts.proofs.Calls.{KnowsIsOpen, knows-is-open}
+use Rattle.yields.proofs.pass_step as last′
+use Rattle.yields.proofs.pass_step.Symbol as last′-def
+use Rattle.yields.proofs.pass_step.Symbol.{name as #last′}
+use Rattle.yields.proofs.pass_step.Met as last′-thm
 use Rattle.relay.proofs.Calls.{KnowsReachFor, knows-reach-for}
 use Rattle.relay.proofs.Values.{name, answer, reading}
 use Rattle.relay.proofs.Asked.{Len, IsOpen, ReachFor}
@@ -114,7 +115,7 @@ module _ {M : Type 1} (𝓤 : URA M) (H : Heap 𝓤) (A : Atoms 𝓤) (mem : Mem
         (is-m, (are .1 .1 .1 .1 .0, tt)) tt refl tt refl (λ is-open.
         reborrows ! (are .1 .0 .0 .1 .0) refl tt $ reborrows ! (are .1 .1 .0 .0 .1 .0) refl tt $
         reborrows ! (are .1 .1 .1 .0 .0 .1 .0) refl tt $ reborrows ! (are .1 .1 .1 .1 .1 .1 .1 .0 .0 .1 .0) refl tt $
-        -- `steps::pass_step`
+        -- `yields::pass_step`
         calls-lent ! (fmOf 𝓤 H (W .laws) 𝓣) Last known-last (κs .1) (qs .1) tt (len, (stands, a .1))
         (vint w64 len ∷ [], (vbool stands ∷ [], valued-of 𝓤 H A Mine κs a .1)) tt (id⊢ 𝓤 _)
         (is-len, (is-open, (are .1 .1 .1 .1 .0, (are .1 .1 .1 .1 .1 .0, tt))))
@@ -132,8 +133,8 @@ pass-spec 𝓤 H 𝓜 𝓖 𝓡 =
     proved-under 𝓤 H 𝓜 𝓖 𝓡 code.env (Mine 𝓤 H (𝓖 .A) (𝓜 .mem) (𝓡 .run)) #relay·pass code.function (code.unfolded 𝓤 H 𝓜 𝓡)
     (tt, λ κs b. refl) Need (λ κs a g. id⊢ 𝓤 _)
     (λ κs a need qs _ _. walk 𝓤 H (𝓖 .A) (𝓜 .mem) (𝓡 .run) (givenOf 𝓤 H 𝓜 𝓖) (tablesOf 𝓤 H 𝓜 (tables 𝓤 H 𝓜 𝓡 code.env))
-    (knows-len 𝓤 H 𝓜 𝓖 𝓡 code.env code.calls-table·len) (knows-reach-for 𝓤 H 𝓜 𝓖 𝓡 code.env code.calls-looks·reach-for)
-    (knows-is-open 𝓤 H 𝓜 𝓖 𝓡 code.env code.calls-table·is-open)
+    (knows-len 𝓤 H 𝓜 𝓖 𝓡 code.env code.calls-finds·len) (knows-reach-for 𝓤 H 𝓜 𝓖 𝓡 code.env code.calls-looks·reach-for)
+    (knows-is-open 𝓤 H 𝓜 𝓖 𝓡 code.env code.calls-counts·is-open)
     (cited 𝓤 H (contractOf 𝓤 H (𝓖 .A) (Last 𝓤 H (𝓖 .A) (𝓜 .mem) (𝓡 .run))) 𝓜 𝓡 code.env #last′ last′-def.routine
-    code.calls-steps·pass-step (last′-thm.met 𝓤 H 𝓜 𝓖 𝓡)) κs qs (a .0) (a .1 .0) (a .1 .1 .0) (a .1 .1 .1 .0)
+    code.calls-yields·pass-step (last′-thm.met 𝓤 H 𝓜 𝓖 𝓡)) κs qs (a .0) (a .1 .0) (a .1 .1 .0) (a .1 .1 .1 .0)
     (a .1 .1 .1 .1 .0) (a .1 .1 .1 .1 .1 .0) (a .1 .1 .1 .1 .1 .1 .0) (a .1 .1 .1 .1 .1 .1 .1 .0) need)

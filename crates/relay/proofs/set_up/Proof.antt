@@ -35,10 +35,10 @@ use Rattle.table.specs.Table.{cleared}
 use Rattle.memory.specs.Relay.{prepared, tables as lent-tables}
 use Rattle.fresh.specs.Fresh.{fitting, startedOf, madeMarks}
 use Rattle.fresh.specs.Start.{fitting-most, set-up-is}
-use Rattle.table.proofs.clear as clear′
-use Rattle.table.proofs.clear.Symbol as clear′-def
-use Rattle.table.proofs.clear.Symbol.{name as #clear′}
-use Rattle.table.proofs.clear.Met as clear′-thm
+use Rattle.frees.proofs.clear as clear′
+use Rattle.frees.proofs.clear.Symbol as clear′-def
+use Rattle.frees.proofs.clear.Symbol.{name as #clear′}
+use Rattle.frees.proofs.clear.Met as clear′-thm
 use Rattle.fresh.proofs.fit as fit′
 use Rattle.fresh.proofs.fit.Symbol as fit′-def
 use Rattle.fresh.proofs.fit.Symbol.{name as #fit′}
@@ -55,7 +55,7 @@ use Rattle.fresh.proofs.places_of as places-of′
 use Rattle.fresh.proofs.places_of.Symbol as places-of′-def
 use Rattle.fresh.proofs.places_of.Symbol.{name as #places-of′}
 use Rattle.fresh.proofs.places_of.Met as places-of′-thm
-use Rattle.table.proofs.Calls.{KnowsLen, knows-len}
+use Rattle.finds.proofs.Calls.{KnowsLen, knows-len}
 use Rattle.relay.proofs.Asked.{Len}
 use Rattle.relay.proofs.set_up.Key.{name as #relay·set-up}
 use Rattle.relay.proofs.set_up as me
@@ -155,7 +155,7 @@ module _ {M : Type 1} (𝓤 : URA M) (H : Heap 𝓤) (A : Atoms 𝓤) (mem : Mem
     walk =
         -- [the frame; the tokens; the places, the rows, the marks, the stores]
         reborrows ! (are .1 .0 .0 .1 .0) refl tt $
-        -- `table::len`
+        -- `finds::len`
         move ! (0 ∷ 5 ∷ 1 ∷ []) $
         calls-shown ! (fmOf 𝓤 H (W .laws) 𝓣) (Len 𝓤 H A mem run) known-len (κs .0) (qs .0) places tt tt tt tt tt refl tt refl (λ is-len.
         counts ! (are .1 .1 .0 .0 .1 .0) refl tt $ counts ! (are .1 .1 .1 .0 .0 .1 .0) refl tt $ counts ! (are .1 .1 .1 .1 .0 .0 .1 .0) refl
@@ -188,7 +188,7 @@ module _ {M : Type 1} (𝓤 : URA M) (H : Heap 𝓤) (A : Atoms 𝓤) (mem : Mem
         (factI 𝓤 _ (emp 𝓤) (fitting-most n (length (now places)) (length rows) (length marks) (length stores))) (is-k, tt)
         (placesFor k) (λ r _. id⊢ 𝓤 _) (0 ∷ []) refl refl tt refl (λ _ is-many _.
         reborrows ! (are .1 .0 .0 .1 .0) refl tt $
-        -- `table::clear`
+        -- `frees::clear`
         calls-lent ! (fmOf 𝓤 H (W .laws) 𝓣) Clear known-clear (κs .0, tt) (qs .0, tt) tt (places, (placesFor k, tt))
         (vs .1 .0, (vint w64 (placesFor k) ∷ [], tt)) tt
         (id⊢ 𝓤 _) (is-many, tt) (λ _ ws. ws .0 ≡ cleared (placesFor k) (now places)) (λ _ ws. id⊢ 𝓤 _) (0 ∷ 2 ∷ 1 ∷ []) refl refl tt refl
@@ -220,13 +220,13 @@ unfolding code.routine tablesOf
 set-up-spec 𝓤 H 𝓜 𝓖 𝓡 =
     proved-by 𝓤 H 𝓜 𝓖 𝓡 code.env (Mine 𝓤 H (𝓖 .A) (𝓜 .mem) (𝓡 .run)) #relay·set-up code.function (code.unfolded 𝓤 H 𝓜 𝓡) (tt, λ κs b. refl)
     (λ κs a qs _ _. walk 𝓤 H (𝓖 .A) (𝓜 .mem) (𝓡 .run) (givenOf 𝓤 H 𝓜 𝓖) (tablesOf 𝓤 H 𝓜 (tables 𝓤 H 𝓜 𝓡 code.env))
-    (knows-len 𝓤 H 𝓜 𝓖 𝓡 code.env code.calls-table·len)
+    (knows-len 𝓤 H 𝓜 𝓖 𝓡 code.env code.calls-finds·len)
     (cited 𝓤 H (contractOf 𝓤 H (𝓖 .A) (Fit 𝓤 H (𝓖 .A) (𝓜 .mem) (𝓡 .run))) 𝓜 𝓡 code.env #fit′ fit′-def.routine
     code.calls-fresh·fit (fit′-thm.met 𝓤 H 𝓜 𝓖 𝓡))
     (cited 𝓤 H (contractOf 𝓤 H (𝓖 .A) (PlacesOf 𝓤 H (𝓖 .A) (𝓜 .mem) (𝓡 .run))) 𝓜 𝓡 code.env #places-of′ places-of′-def.routine
     code.calls-fresh·places-of (places-of′-thm.met 𝓤 H 𝓜 𝓖 𝓡))
     (cited 𝓤 H (contractOf 𝓤 H (𝓖 .A) (Clear 𝓤 H (𝓖 .A) (𝓜 .mem) (𝓡 .run))) 𝓜 𝓡 code.env #clear′ clear′-def.routine
-    code.calls-table·clear (clear′-thm.met 𝓤 H 𝓜 𝓖 𝓡))
+    code.calls-frees·clear (clear′-thm.met 𝓤 H 𝓜 𝓖 𝓡))
     (cited 𝓤 H (contractOf 𝓤 H (𝓖 .A) (MakeFresh 𝓤 H (𝓖 .A) (𝓜 .mem) (𝓡 .run))) 𝓜 𝓡 code.env #make-fresh′ make-fresh′-def.routine
     code.calls-fresh·make-fresh (make-fresh′-thm.met 𝓤 H 𝓜 𝓖 𝓡))
     (cited 𝓤 H (contractOf 𝓤 H (𝓖 .A) (AnswerOf 𝓤 H (𝓖 .A) (𝓜 .mem) (𝓡 .run))) 𝓜 𝓡 code.env #answer-of′ answer-of′-def.routine
