@@ -10,13 +10,17 @@ mod walk;
 
 use libc::STDIN_FILENO;
 
-// A line that is no remark: the line itself, and then what its call answers. The relay is handed on.
+// A line that is no remark: the line itself, and then what its call answers; a question mark where it is no call. The relay is handed on.
 fn play_line(h: hall::Hall, line: &[u8]) -> hall::Hall {
     let call = script::call(line);
     if call == script::REMARK {
         return h;
     }
     print::text(line);
+    if call == script::NONE {
+        print::text(b" ?\n");
+        return h;
+    }
     print::text(b" =");
     characters::play(call, line);
     layouts::play(call, line);

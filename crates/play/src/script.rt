@@ -1,5 +1,5 @@
-// A script: a line a call, its words with blanks between them, numbers in decimal, bytes in hexadecimal. A line whose first word is no
-// call, as `#`, is a remark.
+// A script: a line a call, its words with blanks between them, numbers in decimal, bytes in hexadecimal. A line whose first word is `#` is a
+// remark.
 
 ghost use Prim.Native.Nat.{_<_};
 
@@ -7,9 +7,9 @@ ghost use Prim.Native.Nat.{_<_};
 const LARGEST: usize = 18446744073709551615;
 
 // The calls of a script, and the place of each among them.
-const CALLS: [u8; 156] = *b"\
+const CALLS: [u8; 158] = *b"\
     text rest head-whole head-part head-description head-skipped sample enough \
-    short description modifiers mark mark-three set-up receive send give-up look book";
+    short description modifiers mark mark-three set-up receive send give-up look book #";
 
 pub(crate) const TEXT: usize = 0;
 
@@ -50,6 +50,8 @@ pub(crate) const LOOK: usize = 17;
 pub(crate) const BOOK: usize = 18;
 
 pub(crate) const REMARK: usize = 19;
+// Behind the last of them: the line is none.
+pub(crate) const NONE: usize = 20;
 
 // The line that starts at a place, without its end.
 pub(crate) fn line(s: &[u8], at: usize) -> &[u8] {
@@ -92,11 +94,11 @@ pub(crate) fn word(s: &[u8], k: usize) -> &[u8] {
     octets::cut(s, at, octets::less(behind(s, at, false), at))
 }
 
-// Which call a line is: the place of its first word among CALLS, which is REMARK for every other word.
+// Which call a line is: the place of its first word among CALLS.
 pub(crate) fn call(s: &[u8]) -> usize {
     let calls = CALLS;
     let mut k = 0;
-    while k < REMARK {
+    while k < NONE {
         if octets::same(word(s, 0), word(&calls, k)) {
             break;
         }
