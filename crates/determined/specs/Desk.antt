@@ -164,11 +164,12 @@ settle-lose h desk row marks time x d out =
     (λ (z : After). (z .answer, z .own .row, z .own .marks, z .own .out)) (λ r. refl)
     (opening h row marks [] out desk time x d) r s (a []) (b [])
 
-pub settle-pass : (is-open : Bool) (row marks store : List ℕ) (time : ℕ) (x : Reading) (rest out : List ℕ)
+-- ---- others
+pub others-pass : (is-open : Bool) (row marks store : List ℕ) (time : ℕ) (x : Reading) (rest out : List ℕ)
     → Determines (λ (r : Answer × List ℕ × List ℕ × List ℕ × List ℕ). (p : Place) → p .used ≡ is-open
     → left (turn p (r .0)) (r .1) (r .2) (r .3) (r .4) ≡ passed (own p row marks store out) time x rest)
 unfolding bare
-settle-pass is-open row marks store time x rest out =
+others-pass is-open row marks store time x rest out =
     λ r s a b.
     determined (λ (r : Answer × List ℕ × List ℕ × List ℕ × List ℕ). left (turn (any is-open) (r .0)) (r .1) (r .2) (r .3) (r .4))
     (λ (z : After). (z .answer, z .own .row, z .own .marks, z .own .store, z .own .out)) (λ r. refl)

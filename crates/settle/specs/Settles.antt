@@ -1,22 +1,16 @@
--- One unit of one desk where its sample stands: a part, of the open sample or of one that it opens, and any other unit. Assumes nothing.
+-- A part of one desk where its sample stands: of the open sample, or of one that it opens. Assumes nothing.
 use Prim.Native.Nat.{ℕ}
-use mathlib.Core.Path.{_≡_, refl, sym, ap, _∙_}
-use mathlib.Core.Bool.{true, false, true≢false}
+use mathlib.Core.Path.{_≡_, sym, ap, _∙_}
+use mathlib.Core.Bool.{true, false}
 use mathlib.Core.List.{List}
-use Rattle.laws.specs.Rows.{_⇒_⁏_, yes, no}
-use Rattle.paper.specs.declared.Outcome.the-variants as O
+use Rattle.laws.specs.Rows.{_⇒_⁏_}
 use Rattle.paper.specs.declared.Answer.{Answer}
 use Rattle.unit.specs.declared.Part.{Part}
 use Rattle.sample.specs.declared.Place.{Place}
-use Rattle.sample.specs.Place.{bare, closed, opened, stands}
+use Rattle.sample.specs.Place.{bare, closed, opened}
 use Rattle.desk.specs.declared.Shares.{Shares}
-use Rattle.desk.specs.Desk.{Own, After, own, turn, left, laterPart, sampleOf, joining, partTaken, says, isPart, taken, received}
-use Rattle.asks.specs.Settled.{openIn, laid, laidIn, unasked, passed}
-use Rattle.unit.specs.declared.Part as P
-use Rattle.unit.specs.declared.Unit.{Unit}
-use Rattle.unit.specs.declared.Unit.the-variants as U
-use Rattle.unit.specs.declared.Reading.{Reading}
-use Rattle.unit.specs.Layout.{readOf}
+use Rattle.desk.specs.Desk.{After, own, turn, left, laterPart, sampleOf, joining, partTaken}
+use Rattle.asks.specs.Settled.{openIn, laid, laidIn}
 
 -- ---- what is left where the sample stands
 -- the sample was open
@@ -48,28 +42,3 @@ module _ (h : Shares) (row marks store out : List ℕ) (desk time used next : �
         → a ≡ laidIn before (partTaken h (own (openIn before) row marks store out) desk time used x d)
     unfolding openIn _⇒_⁏_
     taken-new u a e = e ∙ ap (laidIn before) (part-new ∙ rw u)
-
--- ---- one unit
--- a unit that is no part is answered without the shares, whatever they are
-pub received-any : (h : Shares) (s : Own) (desk time : ℕ) (rest : List ℕ) → isPart (readOf rest .unit) ≡ false
-    → passed s time (readOf rest) rest ≡ received h s desk time rest
-unfolding passed received
-received-any h s desk time rest e = sym (no _ _ e refl) ∙ go (readOf rest .unit) e
-  where
-    go : (x : Unit) → isPart x ≡ false → taken unasked s 0 time (readOf rest .used) rest x ≡ taken h s desk time (readOf rest .used) rest x
-    go U.End e = refl
-    go (U.Skipped t) e = refl
-    go (U.Refused r) e = refl
-    go (U.Whole w) e = refl
-    go (U.Part x) e = absurd (true≢false e)
-    go (U.Description w) e = refl
-
-pub passed-is : (s : Own) (time : ℕ) (rest : List ℕ) (r : Reading) (x : Unit) → r .unit ≡ x → isPart x ≡ false
-    → (a : After) → a ≡ taken unasked s 0 time (r .used) rest x → a ≡ passed s time r rest
-unfolding passed
-passed-is s time rest r x f k a q = no _ _ (ap isPart f ∙ k) (q ∙ ap (taken unasked s 0 time (r .used) rest) (sym f))
-
-pub passed-part : (s : Own) (time : ℕ) (rest : List ℕ) (r : Reading) (x : P.Part) → r .unit ≡ U.Part x
-    → (a : After) → a ≡ record { own = s; answer = says 0 time O.End } → a ≡ passed s time r rest
-unfolding passed
-passed-part s time rest r x f a q = yes _ _ (ap isPart f) q

@@ -1,4 +1,4 @@
-// One call's work for one desk, over that desk's own things: its open sample, its finished times, its marks, its store, the output.
+// A part of one desk's sample, over that desk's own things: its open sample, its finished times, its marks, the output.
 // The sample's numbers go by value; its arrays are lent where they stand.
 use asks::Arrival;
 use asks::Bar;
@@ -9,15 +9,12 @@ use paper::Outcome;
 use paper::limits::PARTS_MOST;
 use paper::limits::SAMPLE_MOST;
 use sample::Head;
-use unit::Reading;
-use unit::Unit;
 ghost use mathlib.Core.Path.{_≡_};
 ghost use mathlib.Core.Bool.{false};
 ghost use mathlib.Core.List.{List};
 ghost use Prim.Native.Nat.{ℕ, _<_};
-ghost use Rattle.sample.specs.declared.Place.{Place};
 ghost use Rattle.desk.specs.Desk.{own, turn, left, partTaken};
-ghost use Rattle.asks.specs.Settled.{before, after, openIn, laidIn, opening, passed};
+ghost use Rattle.asks.specs.Settled.{before, after, openIn, laidIn, opening};
 
 // TYPE 2, 3 and 4 over a place: the desk's open sample of this time, or a free place that the part may open.
 pub fn take_part(
@@ -128,40 +125,6 @@ pub fn lose(
                 out,
             );
             r.answer
-        }
-    }
-}
-
-// Takes a unit that is no part: it looks at no place, only whether a sample is open at this time. Of a part it takes nothing.
-pub fn pass(
-    is_open: bool,
-    row: &mut [u32],
-    marks: &mut [u32],
-    store: &mut [u8],
-    time: u32,
-    r: Reading,
-    rest: &[u8],
-    out: &mut [u8],
-) -> Answer
-    ensures { λ a. ⌜ ((p : Place) → p .used ≡ is_open
-        → left (turn p a) (now (row .exit)) (now (marks .exit)) (now (store .exit)) (now (out .exit))
-        ≡ passed (own p (now (row .entry)) (now (marks .entry)) (now (store .entry)) (now (out .entry))) time r
-        (now (rest .entry))) ⌝ }
-{
-    let used = r.used;
-    let x = r.unit;
-    match x {
-        Unit::End => asks::says(used, time, Outcome::End),
-        Unit::Skipped(t) => asks::says(used, time, Outcome::Skipped(t)),
-        Unit::Refused(why) => asks::says(used, time, Outcome::Refused(why)),
-        Unit::Whole(w) => {
-            let d = octets::cut(rest, w.start, w.len);
-            singles::take_whole(is_open, row, marks, time, used, w, d, out)
-        }
-        Unit::Part(_) => asks::says(0, time, Outcome::End),
-        Unit::Description(w) => {
-            let d = octets::cut(rest, w.start, w.len);
-            singles::take_description(marks, store, time, used, w, d)
         }
     }
 }

@@ -31,7 +31,7 @@ use Rattle.desk.specs.Desk.{givenUp}
 use Rattle.asks.specs.declared.Arrival.{Arrival}
 use Rattle.asks.specs.Settled.{openIn, laid, hasPlace, partOf, arrivalOf, unasked, passed}
 use Rattle.table.specs.Table.{seen, stored, holds}
-use Rattle.settle.specs.Settles.{received-any as any-received}
+use Rattle.others.specs.Others.{received-any as any-received}
 use Rattle.memory.specs.Table.{vacant, mine, isAt}
 use Rattle.memory.specs.Relay.{Tables, tables, desksOf, placesOf, rowOf, marksOf, storeOf, sharesOf, openAt, ownOf, placed, stranger}
 use Rattle.memory.specs.Relay.{lacking, lacksThree, Done, done, ordered, settled, receivedAmong, receivedAt, Released, released, yielded}

@@ -39,7 +39,7 @@ pub fn pass_step(
             let row = FINISHED_MOST * who.desk;
             let mark = HEAD_SIZE + MARKS_EACH * who.desk;
             let store = STORE_SIZE * who.desk;
-            settle::pass(
+            others::pass(
                 is_open,
                 &mut rows[row..row + FINISHED_MOST],
                 &mut marks[mark..mark + MARKS_EACH],

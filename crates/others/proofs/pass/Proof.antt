@@ -1,11 +1,11 @@
--- `settle::pass` meets its contract: what the reader found decides, and only whether a sample is open is asked. Assumes nothing.
+-- `others::pass` meets its contract: what the reader found decides, and only whether a sample is open is asked. Assumes nothing.
 use borrow.Author.Needs.{needs}
 use mathlib.Core.Path.{refl, _∙_}
 use denote.Ref.{now}
 use Rattle.desk.specs.Desk.{own}
-use Rattle.settle.specs.Settles.{passed-is, passed-part}
-use Rattle.settle.proofs.pass.Statement.{statement}
-use Rattle.settle.proofs.pass.Tie as tie
+use Rattle.others.specs.Others.{passed-is, passed-part}
+use Rattle.others.proofs.pass.Statement.{statement}
+use Rattle.others.proofs.pass.Tie as tie
 
 returns : tie.Need-returns
 returns c = λ p h.
