@@ -13,8 +13,6 @@ use Rattle.laws.specs.Table.{seek, count}
 use Rattle.paper.specs.Limits.{places, rowsNeed, storesNeed}
 use Rattle.paper.specs.declared.Answer.{Answer}
 use Rattle.paper.specs.declared.Name.{Name}
-use Rattle.paper.specs.declared.Refusal.{Refusal}
-use Rattle.paper.specs.declared.Outcome.the-variants.{Refused}
 use Rattle.unit.specs.declared.Reading.{Reading}
 use Rattle.sample.specs.declared.Place.{Place}
 use Rattle.sample.specs.declared.Head.{Head}
@@ -23,7 +21,6 @@ use Rattle.sample.specs.Place.{bare, closed}
 use Rattle.style.specs.Shown.{shown}
 use Rattle.desk.specs.declared.Shares.{Shares}
 use Rattle.desk.specs.declared.GivenUp.{GivenUp}
-use Rattle.desk.specs.Desk.{says}
 use Rattle.asks.specs.declared.Arrival.{Arrival}
 use Rattle.asks.specs.Settled.{openIn}
 use Rattle.memory.specs.declared.Started.{Started}
@@ -94,9 +91,6 @@ gate-is-lacking n table rows marks stores = equation (lacks n table rows marks s
 pub gate-gate-of : (n table : ℕ) (rows marks : List ℕ) (stores desk : ℕ) (out : List ℕ)
     → Determines (λ (r : Gate). r ≡ gateOf n table (length rows) (length marks) stores desk (length out))
 gate-gate-of n table rows marks stores desk out = equation (gateOf n table (length rows) (length marks) stores desk (length out))
-
-pub gate-refusal : (time : ℕ) (why : Refusal) → Determines (λ (r : Answer). r ≡ says 0 time (Refused why))
-gate-refusal time why = equation (says 0 time (Refused why))
 
 -- ---- fresh
 pub fresh-fit : (n table rows marks stores : ℕ) → Determines (λ (r : ℕ). r ≡ fitting n table rows marks stores)

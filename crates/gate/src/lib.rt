@@ -1,6 +1,4 @@
 // Refusals 1 and 2, asked of the numbers and of the lengths of all that is lent.
-use paper::Answer;
-use paper::Outcome;
 use paper::Refusal;
 use paper::limits::DESKS_AT;
 use paper::limits::DESKS_MOST;
@@ -14,8 +12,6 @@ ghost use mathlib.Core.Path.{_≡_};
 ghost use Prim.Native.Nat.{_≤_};
 ghost use lib.ListN.{length};
 ghost use Rattle.paper.specs.Limits.{desksMost};
-ghost use Rattle.paper.specs.declared.Outcome.the-variants.{Refused};
-ghost use Rattle.desk.specs.Desk.{says};
 ghost use Rattle.memory.specs.Relay.{desksOf, improper, stranger, lacks, lacksThree};
 ghost use Rattle.gate.specs.Gate.{gateOf};
 
@@ -102,15 +98,4 @@ pub fn gate_of(
         return Gate::Shut(Refusal::Output);
     }
     Gate::Through
-}
-
-// What a call answers that does not go through: no bytes are used, and the time is handed back.
-pub fn refusal(time: u32, why: Refusal) -> Answer
-    ensures { λ r. ⌜ r ≡ says 0 time (Refused why) ⌝ }
-{
-    Answer {
-        used: 0,
-        next: time,
-        outcome: Outcome::Refused(why),
-    }
 }

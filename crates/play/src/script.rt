@@ -1,5 +1,5 @@
-// A script: a line a call, its words with blanks between them, numbers in decimal, bytes in hexadecimal. A line whose first word is `#` is a
-// remark.
+// A script: a line a call, its words with blanks between them, numbers in decimal, bytes in hexadecimal. A line whose first word is `#`
+// is a remark.
 
 ghost use Prim.Native.Nat.{_<_};
 

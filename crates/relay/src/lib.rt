@@ -1,5 +1,5 @@
-// The relay for up to eight desks over memory that the caller lends: set-up, receive, give-up and lookup. What decides is in `steps` and
-// `settle`; here are the functions over the lent places, which look at them, lend one and hand on all else.
+// The relay for up to eight desks over memory that the caller lends: set-up, receive, give-up and lookup. What decides is in `gate`,
+// `looks`, `takes` and `yields`; here are the functions over the lent places, which look at them, lend one and hand on all else.
 use asks::Arrival;
 use desk::GivenUp;
 use desk::Shares;

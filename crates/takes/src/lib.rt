@@ -5,6 +5,7 @@ use desk::Shares;
 use gate::Gate;
 use paper::Answer;
 use paper::Name;
+use paper::Outcome;
 use paper::limits::FINISHED_MOST;
 use paper::limits::HEAD_SIZE;
 use paper::limits::MARKS_EACH;
@@ -50,7 +51,7 @@ pub fn step(
     match g {
         Gate::Shut(why) => Settled {
             head: q,
-            answer: gate::refusal(who.time, why),
+            answer: asks::says(0, who.time, Outcome::Refused(why)),
         },
         Gate::Through => {
             let row = FINISHED_MOST * who.desk;
@@ -97,7 +98,7 @@ pub fn step_lost(
     let n = gate::desks_of(marks);
     let g = gate::gate_of(n, table, rows, marks, store_len, who.desk, out);
     match g {
-        Gate::Shut(why) => gate::refusal(who.time, why),
+        Gate::Shut(why) => asks::says(0, who.time, Outcome::Refused(why)),
         Gate::Through => {
             let row = FINISHED_MOST * who.desk;
             let mark = HEAD_SIZE + MARKS_EACH * who.desk;

@@ -3,6 +3,7 @@ use desk::GivenUp;
 use gate::Gate;
 use paper::Answer;
 use paper::Name;
+use paper::Outcome;
 use paper::Refusal;
 use paper::limits::FINISHED_MOST;
 use paper::limits::HEAD_SIZE;
@@ -34,7 +35,7 @@ pub fn pass_step(
     let n = gate::desks_of(marks);
     let g = gate::gate_of(n, table, rows, marks, stores.len(), who.desk, out);
     match g {
-        Gate::Shut(why) => gate::refusal(who.time, why),
+        Gate::Shut(why) => asks::says(0, who.time, Outcome::Refused(why)),
         Gate::Through => {
             let row = FINISHED_MOST * who.desk;
             let mark = HEAD_SIZE + MARKS_EACH * who.desk;

@@ -29,7 +29,7 @@ returns c = λ stores len.
     let a = desks .before .before .before .before .before .before .args in
     let f = gate-at _ _ _ _ _ _ _ _ _ _ (gate .gate-of .ensures) (desks .desks-of .ensures) len in
     lost-shut (a .table) (a .h) closed (now (a .rows)) (now (a .marks)) stores (now (a .out)) (a .who) (a .x) (now (a .rest)) _ f _
-    (c .before .before .g .given .1) _ (c .refusal .ensures)
+    (c .before .before .g .given .1) _ (c .says .ensures)
 
 returns-2 : tie.Need-returns-2
 returns-2 c = λ stores len.

@@ -28,7 +28,7 @@ returns c = λ p o.
     let a = desks .before .before .before .before .before .before .before .args in
     let f = gate-at _ _ _ _ _ _ _ _ _ _ (gate .gate-of .ensures) (desks .desks-of .ensures) refl in
     pass-shut (a .table) p (now (a .rows)) (now (a .marks)) (now (a .stores)) (now (a .out)) (a .who) (a .r) (now (a .rest)) _ f _
-    (c .before .before .g .given .1) _ (c .refusal .ensures)
+    (c .before .before .g .given .1) _ (c .says .ensures)
 
 returns-2 : tie.Need-returns-2
 returns-2 c = λ p o.
