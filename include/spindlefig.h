@@ -15,6 +15,7 @@
 #ifndef SPINDLEFIG_H
 #define SPINDLEFIG_H
 
+#include <stdbool.h>
 #include <stddef.h>
 #include <stdint.h>
 
@@ -112,6 +113,9 @@ void spindlefig_box(const uint8_t *modifiers, size_t modifiers_len, size_t at, u
 
 /* The length in bytes of the character at a place (u 0: UTF-8, else UTF-16 big-endian), and 0 where none is well-formed. */
 size_t spindlefig_character(size_t u, const uint8_t *s, size_t s_len, size_t at);
+
+/* Whether all of a string is well-formed (u as above). */
+bool spindlefig_well_formed(size_t u, const uint8_t *s, size_t s_len);
 
 #ifdef __cplusplus
 }

@@ -165,6 +165,7 @@ int main(void) {
     spindlefig_check(bad, sizeof bad, h.row, 9);
     printf("a book of 5 bytes: %llu, record %llu\n", (unsigned long long)h.row[0], (unsigned long long)h.row[1]);
     printf("the first character of \xc3\xa9t\xc3\xa9 has %zu bytes\n", spindlefig_character(0, (const uint8_t *)"\xc3\xa9t\xc3\xa9", 5, 0));
+    printf("half of it is %s\n", spindlefig_well_formed(0, (const uint8_t *)"\xc3", 1) ? "well-formed" : "ill-formed");
     close_hall(&h);
     return 0;
 }

@@ -2,6 +2,7 @@
 -- Assumes nothing.
 use Prim.Native.Nat.{ℕ}
 use mathlib.Core.Path.{_≡_, refl}
+use mathlib.Core.Bool.{Bool}
 use mathlib.Core.List.{List, []}
 use lib.ListN.{length, drop, set, replicate}
 use lib.Seq.{sets}
@@ -9,7 +10,7 @@ use Rattle.laws.specs.Exactly.{Determines, determined, equation, determined-by-
 use Rattle.paper.specs.Limits.{sampleMost}
 use Rattle.paper.specs.declared.Answer.{Answer}
 use Rattle.paper.specs.declared.Name.{Name}
-use Rattle.text.specs.Unicode.{character}
+use Rattle.text.specs.Unicode.{character, wellFormed}
 use Rattle.boxes.specs.declared.Found.{Found}
 use Rattle.boxes.specs.Step.{stepOf}
 use Rattle.style.specs.declared.Checked.{Checked}
@@ -178,6 +179,9 @@ export-box modifiers at row = equation (sets row 0 (steppedRow (stepOf modifiers
 
 pub export-character : (u : ℕ) (s : List ℕ) (at : ℕ) → Determines (λ (r : ℕ). r ≡ character u (drop at s))
 export-character u s at = equation (character u (drop at s))
+
+pub export-well-formed : (u : ℕ) (s : List ℕ) → Determines (λ (r : Bool). r ≡ wellFormed u s)
+export-well-formed u s = equation (wellFormed u s)
 
 -- ---- lines, list: the output and the place behind the text
 pub lines-put-text : (out : List ℕ) (at : ℕ) (text : List ℕ) → Determines (λ (x : List ℕ × ℕ). page (x .0) (x .1) ≡ typed out at text)

@@ -15,6 +15,8 @@ use Rattle.paper.specs.Limits.{partsMost, sampleMost}
 use Rattle.paper.specs.declared.Refusal.{Refusal}
 use Rattle.paper.specs.declared.Outcome.{Outcome}
 use Rattle.paper.specs.Words.{numberOf, kindOf}
+use Rattle.text.specs.declared.Range.{Range}
+use Rattle.text.specs.Chart.{within}
 use Rattle.text.specs.Unicode as T
 use Rattle.unit.specs.declared.Part.{Part}
 use Rattle.unit.specs.declared.Unit as U
@@ -90,7 +92,13 @@ octets-word row i = equation (getD row i 0)
 pub octets-put-word : (row : List ℕ) (i v : ℕ) → Determines (λ (l : List ℕ). l ≡ set row i v)
 octets-put-word row i v = equation (set row i v)
 
--- ---- finder, strings
+-- ---- chart, finder, strings
+pub chart-eight : (s : List ℕ) → Determines (λ (r : ℕ). r ≡ T.character 0 s)
+chart-eight s = equation (T.character 0 s)
+
+pub chart-within : (r : Range) (b : ℕ) → Determines (λ (t : Bool). t ≡ within r b)
+chart-within r b = equation (within r b)
+
 pub finder-character : (u : ℕ) (s : List ℕ) (at : ℕ) → Determines (λ (r : ℕ). r ≡ T.character u (drop at s))
 finder-character u s at = equation (T.character u (drop at s))
 

@@ -9,7 +9,7 @@ ghost use Rattle.memory.specs.Relay.{lookedUp};
 ghost use Rattle.memory.specs.Lent.{lent, lentThree};
 ghost use Rattle.style.specs.Book.{checkOf};
 ghost use Rattle.boxes.specs.Step.{stepOf};
-ghost use Rattle.text.specs.Unicode.{character};
+ghost use Rattle.text.specs.Unicode.{character, wellFormed};
 ghost use Rattle.writer.specs.Write.{caption, written, described};
 ghost use Rattle.numbers.specs.Numbers.{checkedRow, steppedRow, nameOf};
 ghost use Rattle.answers.specs.Answers.{rowMost};
@@ -204,4 +204,12 @@ pub extern "C" fn spindlefig_character(u: usize, s: &[u8], at: usize) -> usize
     ensures { λ r. ⌜ r ≡ character u (drop at (now (s .entry))) ⌝ }
 {
     finder::character(u, s, at)
+}
+
+// Whether all of s is well-formed.
+#[no_mangle]
+pub extern "C" fn spindlefig_well_formed(u: usize, s: &[u8]) -> bool
+    ensures { λ r. ⌜ r ≡ wellFormed u (now (s .entry)) ⌝ }
+{
+    strings::well_formed(u, s)
 }

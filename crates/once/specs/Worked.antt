@@ -13,7 +13,8 @@ use Rattle.paper.specs.Limits.{sampleMost}
 use Rattle.paper.specs.declared.Refusal.the-variants as R
 use Rattle.paper.specs.declared.Outcome.{Outcome}
 use Rattle.paper.specs.declared.Outcome.the-variants as O
-use Rattle.text.specs.Unicode.{scalar, utf8, encoded, begins, decoded8, decoded, character, wellFormed, wellWithin, reach, reachWithin}
+use Rattle.text.specs.Chart.{chart, within, follows, charted}
+use Rattle.text.specs.Unicode.{character, wellFormed, wellWithin, reach, reachWithin}
 use Rattle.unit.specs.Layout.{readOf, broken, judged, fieldsOf, least, badPart, badWhole}
 use Rattle.joining.specs.Joining as J
 use Rattle.unit.specs.Head.{partHead}
@@ -84,16 +85,16 @@ abc = caption 0 128 100 (0x61 ∷ 0x62 ∷ 0x63 ∷ []) blnk
 
 two-payloads : (count hi 19 ≡ 2) × (payload hi 19 1 ≡ first) × (payload hi 19 2 ≡ second)
     × (written hi 19 1 (replicate 19 0) .answer ≡ Payload 12 2)
-unfolding count payloadUnit payloadData partUnit partHead written uncut unwritable illFormed unsized wellFormed wellWithin long pieces modified cuts cutsWithin reach reachWithin character scalar utf8 encoded begins decoded8 decoded _⇒_⁏_ _<?_ _=?_
+unfolding count payloadUnit payloadData partUnit partHead written uncut unwritable illFormed unsized wellFormed wellWithin long pieces modified cuts cutsWithin reach reachWithin character chart within follows charted _⇒_⁏_ _<?_ _=?_
 two-payloads = (refl, refl, refl, refl)
 
 one-payload : (count plain 14 ≡ 1) × (payload plain 14 1 ≡ all) × (written plain 14 1 (replicate 14 0) .answer ≡ Payload 11 1)
-unfolding count payloadUnit payloadData partUnit partHead written uncut unwritable illFormed unsized wellFormed wellWithin long pieces modified cuts cutsWithin reach reachWithin character scalar utf8 encoded begins decoded8 decoded _⇒_⁏_ _<?_ _=?_
+unfolding count payloadUnit payloadData partUnit partHead written uncut unwritable illFormed unsized wellFormed wellWithin long pieces modified cuts cutsWithin reach reachWithin character chart within follows charted _⇒_⁏_ _<?_ _=?_
 one-payload = (refl, refl, refl)
 
 three-payloads : (count abc 17 ≡ 3) × (payload abc 17 1 ≡ letters) × (payload abc 17 2 ≡ blink) × (payload abc 17 3 ≡ blinked)
     × (written abc 17 1 (replicate 17 0) .answer ≡ Payload 13 3)
-unfolding count payloadUnit payloadData partUnit partHead written uncut unwritable illFormed unsized wellFormed wellWithin long pieces modified cuts cutsWithin reach reachWithin character scalar utf8 encoded begins decoded8 decoded _⇒_⁏_ _<?_ _=?_
+unfolding count payloadUnit payloadData partUnit partHead written uncut unwritable illFormed unsized wellFormed wellWithin long pieces modified cuts cutsWithin reach reachWithin character chart within follows charted _⇒_⁏_ _<?_ _=?_
 three-payloads = (refl, refl, refl, refl, refl)
 
 -- bytes that are a payload, and what follows them, begin with it
@@ -135,7 +136,7 @@ pub record Meets (c : Caption) (M : ℕ) (xs : List Call) : Type 0 where
   pub soon : AllSoon c M 5 start xs (alone freshView xs)
 
 meets : (desk : ℕ) → Meets hi 19 (calls desk) × Meets plain 14 (whole-calls desk) × Meets abc 17 (three-calls desk)
-unfolding _⇒_⁏_ _<?_ _=?_ readOf broken judged fieldsOf least badPart badWhole bare outside has agrees stands repeats oversize toldOf telling laid kept missing piecesIn piecesOf among laterPart sampleOf conflicts six usedUp completed joining wholeTaken received ordered ones movedRow markedRow markedUsed J.laters J.going J.ordered J.sound flatten asksPart same givenUp yielded awaited count long pieces modified cuts cutsWithin reach reachWithin character scalar utf8 encoded begins decoded8 decoded
+unfolding _⇒_⁏_ _<?_ _=?_ readOf broken judged fieldsOf least badPart badWhole bare outside has agrees stands repeats oversize toldOf telling laid kept missing piecesIn piecesOf among laterPart sampleOf conflicts six usedUp completed joining wholeTaken received ordered ones movedRow markedRow markedUsed J.laters J.going J.ordered J.sound flatten asksPart same givenUp yielded awaited count long pieces modified cuts cutsWithin reach reachWithin character chart within follows charted
 meets desk = (
   record {
     frugal = (idle, (λ e. omega arith, (idle, (idle, (idle, (idle, (idle, tt)))))));

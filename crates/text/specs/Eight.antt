@@ -1,150 +1,327 @@
--- UTF-8 by its lead byte: what the finder's tests say of the bytes, both ways. Assumes nothing.
-use Prim.Native.Nat.{ℕ, suc, _+_, _-_, _*_, _/_, _%_, _<_, _≤_}
+-- UTF-8: the chart's rule and the encodings of the scalar values are one rule, for every list. Assumes nothing.
+use Prim.Native.Nat.{ℕ, zero, suc, _+_, _-_, _*_, _/_, _%_, _<_, _≤_}
 use native.Mathlib.Omega.{arith}
-use mathlib.Core.Path.{_≡_, refl, sym, ap, _∙_}
-use mathlib.Core.Bool.{true}
+use mathlib.Core.Path.{_≡_, refl, sym, _∙_}
+use mathlib.Core.Logic.{_⊎_, inl, inr, ⊎-elim}
+use mathlib.Core.Bool.{Bool, true, false, true≢false}
 use mathlib.Core.List.{List, [], _∷_, _++_}
 use lib.ListN.{length, take}
-use Rattle.laws.specs.Rows.{_⇒_⁏_, _<?_, yes, no, lt, ge, eq, lt-of, ge-of, each, and-of, and-is}
+use Rattle.laws.specs.Rows.{_⇒_⁏_, _<?_, _=?_, yes, no, lt, ge, ne, lt-of, ge-of, eq-of, ne-of, each, and-of, or-of}
+use Rattle.laws.specs.Exactly.{Exactly}
 use Rattle.octets.specs.Be.{u8At}
-use Rattle.text.specs.Unicode.{scalar, utf8, encoded, decoded8, decoded, character}
+use Rattle.text.specs.declared.Range.{Range}
+use Rattle.text.specs.declared.Row.{Row}
+use Rattle.text.specs.Chart.{_to_, row, chart, within, follows, charted}
+use Rattle.text.specs.Unicode.{scalar, utf8}
 use Rattle.text.specs.Laws.{took}
-use Rattle.text.specs.Encoding.{utf8-forms, scalar-top, decoded-encoded}
-use Rattle.text.specs.Finder.{found-is, refused-is}
-use Rattle.text.specs.Steps.{sizeOf, leastOf, continues}
+use Rattle.text.specs.Encoding.{scalar-of, scalar-is, scalar-top, utf8-some}
+use Rattle.text.specs.Front.{Front, exactly}
+use Rattle.text.specs.Ranges.{In, within-of, within-is, within-not, Follows, follows-of, follows-is}
+use Rattle.text.specs.Numbers.{more, number, first, last, ranged, fair, behind, climbs, chart-climbs}
 
-encoded-0 : (c : ℕ) → encoded 0 c ≡ utf8 c
-unfolding encoded
-encoded-0 c = sym (yes _ _ (eq 0 0 refl) refl)
+-- a row says: what fits it is the encoding of a scalar value; and the encodings of its numbers fit it
+pub record Rule (r : Row) : Type 0 where
+  pub sound : (s : List ℕ) → In (r .0) (u8At s 0) → Follows r s → Front utf8 s (r .2)
+  pub fits : (c : ℕ) (rest : List ℕ) → first r ≤ c → c ≤ last r
+      → In (r .0) (u8At (utf8 c ++ rest) 0) × (Follows r (utf8 c ++ rest) × (r .2 ≡ length (utf8 c)))
 
-decoded-0 : (s : List ℕ) → decoded 0 s ≡ decoded8 s
-unfolding decoded
-decoded-0 s = sym (yes _ _ (eq 0 0 refl) refl)
+-- ---- the encoding of a number, form by form
 
--- what n bytes show of a character c in front of s
-pub record Shape (c n : ℕ) (s : List ℕ) : Type 0 where
-  pub some : 0 < n
-  pub long : n ≤ length s
-  pub least : leastOf n ≤ c
-  pub rest : continues s 1 (n - 1) ≡ true
+utf8-one : (c : ℕ) → c < 0x80 → utf8 c ≡ c ∷ []
+unfolding utf8
+utf8-one c h = sym (yes _ _ (lt _ _ h) refl)
 
-leasts : (leastOf 1 ≡ 0) × ((leastOf 2 ≡ 0x80) × ((leastOf 3 ≡ 0x800) × (leastOf 4 ≡ 0x10000)))
-unfolding leastOf _⇒_⁏_ _<?_
-leasts = (refl, (refl, (refl, refl)))
+utf8-two : (c : ℕ) → 0x80 ≤ c → c < 0x800 → utf8 c ≡ (0xC0 + c / 0x40) ∷ (0x80 + c % 0x40) ∷ []
+unfolding utf8
+utf8-two c h k = sym (no _ _ (ge _ _ h) (yes _ _ (lt _ _ k) refl))
 
--- the same, of as many bytes as the lead byte says
-shape : (c n : ℕ) (s : List ℕ) → n ≡ sizeOf (u8At s 0) → 0 < n → n ≤ length s → leastOf n ≤ c → continues s 1 (n - 1) ≡ true
-    → Shape c (sizeOf (u8At s 0)) s
-shape c n s e h l k r = rw (← e) (record { some = h; long = l; least = k; rest = r })
+utf8-three : (c : ℕ) → 0x800 ≤ c → c < 0x10000
+    → utf8 c ≡ (0xE0 + c / 0x1000) ∷ (0x80 + c / 0x40 % 0x40) ∷ (0x80 + c % 0x40) ∷ []
+unfolding utf8
+utf8-three c h k = sym (no _ _ (ge _ _ (omega arith)) (no _ _ (ge _ _ h) (yes _ _ (lt _ _ k) refl)))
 
--- one continuation byte more, and one less
-goes : (s : List ℕ) (i k : ℕ) → 0x80 ≤ u8At s i → u8At s i < 0xC0 → continues s (suc i) k ≡ true → continues s i (suc k) ≡ true
-unfolding continues
-goes s i k h l e = and-is _ _ (lt _ _ h) (and-is _ _ (lt _ _ l) e)
+utf8-four : (c : ℕ) → 0x10000 ≤ c
+    → utf8 c ≡ (0xF0 + c / 0x40000) ∷ (0x80 + c / 0x1000 % 0x40) ∷ (0x80 + c / 0x40 % 0x40) ∷ (0x80 + c % 0x40) ∷ []
+unfolding utf8
+utf8-four c h = sym (no _ _ (ge _ _ (omega arith)) (no _ _ (ge _ _ (omega arith)) (no _ _ (ge _ _ h) refl)))
 
-went : (s : List ℕ) (i k : ℕ) → continues s i (suc k) ≡ true → (0x80 ≤ u8At s i) × ((u8At s i < 0xC0) × (continues s (suc i) k ≡ true))
-unfolding continues
-went s i k e = let t = and-of _ _ e in let u = and-of _ _ (t .1) in (lt-of _ _ (t .0), (lt-of _ _ (u .0), u .1))
+-- ---- the rule at a row of each length
 
--- a character in front has its shape
-shaped : (c : ℕ) (rest : List ℕ) → c < 0x110000 → Shape c (sizeOf (u8At (utf8 c ++ rest) 0)) (utf8 c ++ rest)
-unfolding sizeOf continues
-shaped c rest top =
-    utf8-forms (λ x. Shape c (sizeOf (u8At (x ++ rest) 0)) (x ++ rest)) c
-    (λ h. shape c 1 (c ∷ rest) (yes _ _ (lt _ _ h) refl) (omega arith) (omega arith) (omega (arith, leasts)) refl)
-    (λ h k.
-    let s : List ℕ = (0xC0 + c / 0x40) ∷ (0x80 + c % 0x40) ∷ rest in
-    shape c 2 s (no _ _ (ge _ _ (omega arith)) (no _ _ (ge _ _ (omega arith)) (yes _ _ (lt _ _ (omega arith)) refl)))
-    (omega arith) (omega arith) (omega (arith, leasts)) (goes s 1 0 (omega arith) (omega arith) refl))
-    (λ h k.
-    let s : List ℕ = (0xE0 + c / 0x1000) ∷ (0x80 + c / 0x40 % 0x40) ∷ (0x80 + c % 0x40) ∷ rest in
-    shape c 3 s
-    (no _ _ (ge _ _ (omega arith)) (no _ _ (ge _ _ (omega arith)) (no _ _ (ge _ _ (omega arith)) (yes _ _ (lt _ _ (omega arith)) refl))))
-    (omega arith) (omega arith) (omega (arith, leasts)) (goes s 1 1 (omega arith) (omega arith) (goes s 2 0 (omega arith) (omega arith) refl)))
-    (λ h.
-    let s : List ℕ = (0xF0 + c / 0x40000) ∷ (0x80 + c / 0x1000 % 0x40) ∷ (0x80 + c / 0x40 % 0x40) ∷ (0x80 + c % 0x40) ∷ rest in
-    shape c 4 s
-    (no _ _ (ge _ _ (omega arith)) (no _ _ (ge _ _ (omega arith)) (no _ _ (ge _ _ (omega arith)) (no _ _ (ge _ _ (omega arith)) refl))))
-    (omega arith) (omega arith) (omega (arith, leasts))
-    (goes s 1 2 (omega arith) (omega arith) (goes s 2 1 (omega arith) (omega arith) (goes s 3 0 (omega arith) (omega arith) refl))))
+-- what `ranged` says
+record Ranged (lead : Range) (a b c d : ℕ) : Type 0 where
+  pub lead-from : In lead a
+  pub lead-to : In lead b
+  pub second-from : In (0x80 to 0xBF) c
+  pub second-to : In (0x80 to 0xBF) d
+  pub full : (a ≡ b) ⊎ ((c ≡ 0x80) × (d ≡ 0xBF))
 
--- the code's refusals: no value has the shape that the bytes have
-pub eight-refused : (s : List ℕ) (n : ℕ) → n ≡ sizeOf (u8At s 0) → (scalar (decoded8 s) ≡ true → Shape (decoded8 s) n s → ⊥)
-    → 0 ≡ character 0 s
-eight-refused s n z h =
-    refused-is 0 s
-    (λ c rest good e.
-    let d : decoded8 s ≡ c = sym (decoded-0 s) ∙ ap (decoded 0) e ∙ decoded-encoded 0 c rest good in
-    let x : utf8 c ++ rest ≡ s = rw (← (encoded-0 c)) (sym e) in
-    h (rw d good) (rw (d, z) (rw x at (shaped c rest (scalar-top c good)))))
+ranged-of : (lead : Range) (a b c d n : ℕ) → ranged lead (row (a to b) (c to d) n) ≡ true → Ranged lead a b c d
+unfolding ranged
+ranged-of lead a b c d n h =
+    let t = and-of _ _ h in
+    let u = and-of _ _ (t .1) in
+    let v = and-of _ _ (u .1) in
+    let w = and-of _ _ (v .1) in
+    record {
+      lead-from = within-of lead a (t .0);
+      lead-to = within-of lead b (u .0);
+      second-from = within-of (0x80 to 0xBF) c (v .0);
+      second-to = within-of (0x80 to 0xBF) d (w .0);
+      full = ⊎-elim (λ p. inl (eq-of _ _ p)) (λ p. let q = and-of _ _ p in inr (eq-of _ _ (q .0), eq-of _ _ (q .1))) (or-of _ _ (w .1));
+    }
 
--- ---- the bytes that have the shape are the encoding
+-- six bits more, and back
+module _ (m b : ℕ) (h : In (0x80 to 0xBF) b) where
+  more-div : more m b / 0x40 ≡ m
+  unfolding more
+  more-div = omega arith
 
-module _ (s : List ℕ) (c : ℕ) (e : c ≡ decoded8 s) where
-  one-fits : u8At s 0 < 0x80 → 1 ≤ length s → utf8 c ≡ take 1 s
-  unfolding utf8 decoded8
-  one-fits h l =
-      let v : c ≡ u8At s 0 = e ∙ sym (yes _ _ (lt _ _ h) refl) in
-      sym (yes _ _ (lt _ _ (omega arith)) (rw v (sym (took 0 s 0 0 [] (omega arith) refl))))
+  more-mod : 0x80 + more m b % 0x40 ≡ b
+  unfolding more
+  more-mod = omega arith
 
-  two-fits : 0xC0 ≤ u8At s 0 → u8At s 0 < 0xE0 → 2 ≤ length s → 0x80 ≤ c → continues s 1 1 ≡ true → utf8 c ≡ take 2 s
-  unfolding utf8 decoded8
-  two-fits h k l m r =
-      let v : c ≡ (u8At s 0 - 0xC0) * 0x40 + (u8At s 1 - 0x80) = e ∙ sym (no _ _ (ge _ _ (omega arith)) (yes _ _ (lt _ _ k) refl)) in
-      let w = went s 1 0 r in
-      let a : 0xC0 + c / 0x40 ≡ u8At s 0 = omega arith in
-      let b : 0x80 + c % 0x40 ≡ u8At s 1 = omega arith in
-      sym (no _ _ (ge _ _ (omega arith)) (yes _ _ (lt _ _ (omega arith))
-      (rw (a, b) (sym (took 0 s 0 1 _ (omega arith) (took 0 s 1 0 [] (omega arith) refl))))))
+more-mono : (m n b c : ℕ) → m ≤ n → b ≤ c → more m b ≤ more n c
+unfolding more
+more-mono m n b c h k = omega arith
 
-  three-fits : 0xE0 ≤ u8At s 0 → u8At s 0 < 0xF0 → 3 ≤ length s → 0x800 ≤ c → continues s 1 2 ≡ true → utf8 c ≡ take 3 s
-  unfolding utf8 decoded8
-  three-fits h k l m r =
-      let v : c ≡ (u8At s 0 - 0xE0) * 0x1000 + (u8At s 1 - 0x80) * 0x40 + (u8At s 2 - 0x80) =
-      e ∙ sym (no _ _ (ge _ _ (omega arith)) (no _ _ (ge _ _ h) (yes _ _ (lt _ _ k) refl))) in
-      let w = went s 1 1 r in
-      let x = went s 2 0 (w .1 .1) in
-      let a : 0xE0 + c / 0x1000 ≡ u8At s 0 = omega arith in
-      let b : 0x80 + c / 0x40 % 0x40 ≡ u8At s 1 = omega arith in
-      let d : 0x80 + c % 0x40 ≡ u8At s 2 = omega arith in
-      sym (no _ _ (ge _ _ (omega arith)) (no _ _ (ge _ _ m) (yes _ _ (lt _ _ (omega arith))
-      (rw (a, b, d) (sym (took 0 s 0 2 _ (omega arith) (took 0 s 1 1 _ (omega arith) (took 0 s 2 0 [] (omega arith) refl))))))))
+-- a number between two, without its last six bits
+more-from : (m k : ℕ) → more m 0x80 ≤ k → m ≤ k / 0x40
+unfolding more
+more-from m k h = omega arith
 
-  four-fits : 0xF0 ≤ u8At s 0 → 4 ≤ length s → 0x10000 ≤ c → continues s 1 3 ≡ true → utf8 c ≡ take 4 s
-  unfolding utf8 decoded8
-  four-fits h l m r =
-      let v : c ≡ (u8At s 0 - 0xF0) * 0x40000 + (u8At s 1 - 0x80) * 0x1000 + (u8At s 2 - 0x80) * 0x40 + (u8At s 3 - 0x80) =
-      e ∙ sym (no _ _ (ge _ _ (omega arith)) (no _ _ (ge _ _ (omega arith)) (no _ _ (ge _ _ h) refl))) in
-      let w = went s 1 2 r in
-      let x = went s 2 1 (w .1 .1) in
-      let y = went s 3 0 (x .1 .1) in
-      let a : 0xF0 + c / 0x40000 ≡ u8At s 0 = omega arith in
-      let b : 0x80 + c / 0x1000 % 0x40 ≡ u8At s 1 = omega arith in
-      let d : 0x80 + c / 0x40 % 0x40 ≡ u8At s 2 = omega arith in
-      let f : 0x80 + c % 0x40 ≡ u8At s 3 = omega arith in
-      sym (no _ _ (ge _ _ (omega arith)) (no _ _ (ge _ _ (omega arith)) (no _ _ (ge _ _ m)
-      (rw (a, b, d, f)
-      (sym (took 0 s 0 3 _ (omega arith) (took 0 s 1 2 _ (omega arith) (took 0 s 2 1 _ (omega arith) (took 0 s 3 0 [] (omega arith) refl)))))))))
+more-to : (m k : ℕ) → k ≤ more m 0xBF → k / 0x40 ≤ m
+unfolding more
+more-to m k h = omega arith
 
-abbrev Fits : List ℕ → ℕ → Type 0
-Fits s n = 0 < n → n ≤ length s → leastOf n ≤ decoded8 s → continues s 1 (n - 1) ≡ true → utf8 (decoded8 s) ≡ take n s
+-- the lead byte and the second one of a number between a row's first and last, without what the others hold
+spread : (l a b c d m : ℕ) → l ≤ a → l ≤ b → In (0x80 to 0xBF) c → In (0x80 to 0xBF) d → (a ≡ b) ⊎ ((c ≡ 0x80) × (d ≡ 0xBF))
+    → more (a - l) c ≤ m → m ≤ more (b - l) d → In (a to b) (l + m / 0x40) × In (c to d) (0x80 + m % 0x40)
+unfolding more
+spread l a b c d m ha hb hc hd full from upto = go (a - l) (b - l) (c - 0x80) (d - 0x80)
+    (omega arith) (omega arith) (omega arith) (omega arith) from upto
+  where
+    go : (x y z w : ℕ) → a ≡ l + x → b ≡ l + y → c ≡ 0x80 + z → d ≡ 0x80 + w → x * 0x40 + z ≤ m → m ≤ y * 0x40 + w
+        → In (a to b) (l + m / 0x40) × In (c to d) (0x80 + m % 0x40)
+    go x y z w ea eb ec ed f t =
+        ⊎-elim (λ e. ((omega arith, omega arith), (omega arith, omega arith))) (λ e. ((omega arith, omega arith), (omega arith, omega arith))) full
 
--- by the lead byte
-fits : (s : List ℕ) → Fits s (sizeOf (u8At s 0))
-unfolding sizeOf
-fits s =
-    each (Fits s) _ _ _
-    (λ h z l m r. one-fits s _ refl (lt-of _ _ h) l)
-    (λ h. each (Fits s) _ _ _
-    (λ k z l m r. absurd (omega arith))
-    (λ k. each (Fits s) _ _ _
-    (λ j z l m r. two-fits s _ refl (ge-of _ _ k) (lt-of _ _ j) l (omega (arith, leasts)) r)
-    (λ j. each (Fits s) _ _ _
-    (λ i z l m r. three-fits s _ refl (ge-of _ _ j) (lt-of _ _ i) l (omega (arith, leasts)) r)
-    (λ i z l m r. four-fits s _ refl (ge-of _ _ i) l (omega (arith, leasts)) r))))
+none : {P : Type 0} (n k : ℕ) → n < k → k ≤ n → P
+none n k h l = absurd (omega arith)
 
--- the code's find: the bytes that have the shape are a character
-pub eight-found : (s : List ℕ) (n : ℕ) → n ≡ sizeOf (u8At s 0) → scalar (decoded8 s) ≡ true → Shape (decoded8 s) n s → n ≡ character 0 s
-eight-found s n z good h =
-    let f : Fits s n = rw z (fits s) in
-    found-is 0 s n (rw decoded-0 good) (rw (decoded-0, encoded-0) (f (h .some) (h .long) (h .least) (h .rest))) (h .long)
+module _ (a b c d : ℕ) where
+  one : b < 0x80 → Rule (row (a to b) (c to d) 1)
+  unfolding first last number _⇒_⁏_ _=?_
+  one h =
+      record {
+        sound = λ s l f.
+            let e = utf8-one (u8At s 0) (omega (arith, l .1)) in
+            record {
+              value = u8At s 0;
+              good = scalar-is (u8At s 0) (inl (omega (arith, l .1)));
+              size = rw e refl;
+              front = rw e (sym (took 0 s 0 0 [] (f .long) refl));
+            };
+        fits = λ x rest k l.
+            rw (utf8-one x (omega arith))
+            ((k, l), (record { long = omega arith; second = none 1 2 (omega arith); third = none 1 3 (omega arith); fourth = none 1 4 (omega arith) }, refl));
+      }
+
+  two : Ranged (0xC0 to 0xDF) a b c d → 0x80 ≤ first (row (a to b) (c to d) 2) → Rule (row (a to b) (c to d) 2)
+  unfolding first last number _⇒_⁏_ _=?_
+  two g h =
+      record {
+        sound = λ s l f.
+            let x = u8At s 0 - 0xC0 in
+            let i = f .second (omega arith) in
+            let j : In (0x80 to 0xBF) (u8At s 1) = (omega (arith, i, g .second-from), omega (arith, i, g .second-to)) in
+            let v = more x (u8At s 1) in
+            let low = more-mono (a - 0xC0) x c (u8At s 1) (omega (arith, l)) (i .0) in
+            let p : v / 0x40 ≡ x = more-div x (u8At s 1) j in
+            let q = more-mod x (u8At s 1) j in
+            let o : 0xC0 + x ≡ u8At s 0 = omega (arith, l, g .lead-from) in
+            let top : x < 0x20 = omega (arith, l, g .lead-to) in
+            let e = utf8-two v (omega arith) (omega arith) in
+            record {
+              value = v;
+              good = scalar-is v (inl (omega arith));
+              size = rw e refl;
+              front = rw (e, p, q, o) (sym (took 0 s 0 1 _ (omega (arith, f .long)) (took 0 s 1 0 [] (omega (arith, f .long)) refl)));
+            };
+        fits = λ x rest k l.
+            let w = spread 0xC0 a b c d x (g .lead-from .0) (g .lead-to .0) (g .second-from) (g .second-to) (g .full) k l in
+            rw (utf8-two x (omega arith) (omega (arith, w .0, g .lead-to)))
+            (w .0, (record { long = omega arith; second = λ z. w .1; third = none 2 3 (omega arith); fourth = none 2 4 (omega arith) }, refl));
+      }
+
+  three : Ranged (0xE0 to 0xEF) a b c d → 0x800 ≤ first (row (a to b) (c to d) 3)
+      → (last (row (a to b) (c to d) 3) < 0xD800) ⊎ (0xDFFF < first (row (a to b) (c to d) 3)) → Rule (row (a to b) (c to d) 3)
+  unfolding first last number _⇒_⁏_ _=?_
+  three g h free =
+      record {
+        sound = λ s l f.
+            let x = u8At s 0 - 0xE0 in
+            let i = f .second (omega arith) in
+            let j : In (0x80 to 0xBF) (u8At s 1) = (omega (arith, i, g .second-from), omega (arith, i, g .second-to)) in
+            let t = f .third (omega arith) in
+            let m = more x (u8At s 1) in
+            let v = more m (u8At s 2) in
+            let low = more-mono _ m 0x80 (u8At s 2) (more-mono (a - 0xE0) x c (u8At s 1) (omega (arith, l)) (i .0)) (t .0) in
+            let high = more-mono m _ (u8At s 2) 0xBF (more-mono x (b - 0xE0) (u8At s 1) d (omega (arith, l)) (i .1)) (t .1) in
+            let p : v / 0x40 ≡ m = more-div m (u8At s 2) t in
+            let n : m / 0x40 ≡ x = more-div x (u8At s 1) j in
+            let q : v / 0x1000 ≡ x = omega arith in
+            let o : 0xE0 + x ≡ u8At s 0 = omega (arith, l, g .lead-from) in
+            let top : x < 0x10 = omega (arith, l, g .lead-to) in
+            let e = utf8-three v (omega arith) (omega arith) in
+            record {
+              value = v;
+              good = scalar-is v (⊎-elim (λ y. inl (omega arith)) (λ y. inr (omega arith, omega arith)) free);
+              size = rw e refl;
+              front = rw (e, q, p, o, more-mod x (u8At s 1) j, more-mod m (u8At s 2) t)
+                  (sym (took 0 s 0 2 _ (omega (arith, f .long)) (took 0 s 1 1 _ (omega (arith, f .long)) (took 0 s 2 0 [] (f .long) refl))));
+            };
+        fits = λ x rest k l.
+            let w = spread 0xE0 a b c d (x / 0x40) (g .lead-from .0) (g .lead-to .0) (g .second-from) (g .second-to) (g .full)
+            (more-from _ x k) (more-to _ x l) in
+            let q : x / 0x40 / 0x40 ≡ x / 0x1000 = omega arith in
+            rw (utf8-three x (omega arith) (omega (arith, w .0, g .lead-to)))
+            (rw q at (w .0), (record { long = omega arith; second = λ z. w .1; third = λ z. (omega arith, omega arith); fourth = none 3 4 (omega arith) }, refl));
+      }
+
+  four : Ranged (0xF0 to 0xF7) a b c d → 0x10000 ≤ first (row (a to b) (c to d) 4) → last (row (a to b) (c to d) 4) < 0x110000
+      → Rule (row (a to b) (c to d) 4)
+  unfolding first last number _⇒_⁏_ _=?_
+  four g h top =
+      record {
+        sound = λ s l f.
+            let x = u8At s 0 - 0xF0 in
+            let i = f .second (omega arith) in
+            let j : In (0x80 to 0xBF) (u8At s 1) = (omega (arith, i, g .second-from), omega (arith, i, g .second-to)) in
+            let t = f .third (omega arith) in
+            let r = f .fourth (omega arith) in
+            let m = more x (u8At s 1) in
+            let n = more m (u8At s 2) in
+            let v = more n (u8At s 3) in
+            let low = more-mono _ n 0x80 (u8At s 3) (more-mono _ m 0x80 (u8At s 2) (more-mono (a - 0xF0) x c (u8At s 1) (omega (arith, l)) (i .0)) (t .0)) (r .0) in
+            let high = more-mono n _ (u8At s 3) 0xBF (more-mono m _ (u8At s 2) 0xBF (more-mono x (b - 0xF0) (u8At s 1) d (omega (arith, l)) (i .1)) (t .1)) (r .1) in
+            let p : v / 0x40 ≡ n = more-div n (u8At s 3) r in
+            let p2 : n / 0x40 ≡ m = more-div m (u8At s 2) t in
+            let p3 : m / 0x40 ≡ x = more-div x (u8At s 1) j in
+            let q2 : v / 0x1000 ≡ m = omega arith in
+            let q3 : v / 0x40000 ≡ x = omega arith in
+            let o : 0xF0 + x ≡ u8At s 0 = omega (arith, l, g .lead-from) in
+            let e = utf8-four v (omega arith) in
+            record {
+              value = v;
+              good = scalar-is v (inr (omega arith, omega arith));
+              size = rw e refl;
+              front = rw (e, q3, q2, p, o, more-mod x (u8At s 1) j, more-mod m (u8At s 2) t, more-mod n (u8At s 3) r)
+                  (sym (took 0 s 0 3 _ (omega (arith, f .long)) (took 0 s 1 2 _ (omega (arith, f .long))
+                  (took 0 s 2 1 _ (omega (arith, f .long)) (took 0 s 3 0 [] (f .long) refl)))));
+            };
+        fits = λ x rest k l.
+            let w = spread 0xF0 a b c d (x / 0x40 / 0x40) (g .lead-from .0) (g .lead-to .0) (g .second-from) (g .second-to) (g .full)
+            (more-from _ (x / 0x40) (more-from _ x k)) (more-to _ (x / 0x40) (more-to _ x l)) in
+            let q : x / 0x40 / 0x40 ≡ x / 0x1000 = omega arith in
+            let q2 : x / 0x1000 / 0x40 ≡ x / 0x40000 = omega arith in
+            rw (utf8-four x (omega arith))
+            (rw (q, q2) at (w .0), (record { long = omega arith; second = λ z. rw q at (w .1); third = λ z. (omega arith, omega arith); fourth = λ z. (omega arith, omega arith) }, refl));
+      }
+
+-- ---- the test says the rule at each row
+
+longer : (r : Row) → 4 < r .2 → fair r ≡ false
+unfolding fair
+longer r h =
+    sym
+    (no _ _ (ne _ _ (λ e. omega arith))
+    (no _ _ (ne _ _ (λ e. omega arith)) (no _ _ (ne _ _ (λ e. omega arith)) (no _ _ (ne _ _ (λ e. omega arith)) refl))))
+
+rule-of : (a b c d n : ℕ) → fair (row (a to b) (c to d) n) ≡ true → Rule (row (a to b) (c to d) n)
+unfolding fair _⇒_⁏_ _=?_
+rule-of a b c d zero h = absurd (true≢false (sym h))
+rule-of a b c d (suc zero) h = one a b c d (lt-of _ _ h)
+rule-of a b c d (suc (suc zero)) h =
+    let t = and-of (ranged (0xC0 to 0xDF) (row (a to b) (c to d) 2)) _ h in
+    two a b c d (ranged-of (0xC0 to 0xDF) a b c d 2 (t .0)) (lt-of _ _ (t .1))
+rule-of a b c d (suc (suc (suc zero))) h =
+    let t = and-of (ranged (0xE0 to 0xEF) (row (a to b) (c to d) 3)) _ h in
+    let u = and-of (0x7FF <? first (row (a to b) (c to d) 3)) _ (t .1) in
+    three a b c d (ranged-of (0xE0 to 0xEF) a b c d 3 (t .0)) (lt-of _ _ (u .0))
+    (⊎-elim (λ p. inl (lt-of _ _ p)) (λ p. inr (lt-of _ _ p)) (or-of (last (row (a to b) (c to d) 3) <? 0xD800) _ (u .1)))
+rule-of a b c d (suc (suc (suc (suc zero)))) h =
+    let t = and-of (ranged (0xF0 to 0xF7) (row (a to b) (c to d) 4)) _ h in
+    let u = and-of (0xFFFF <? first (row (a to b) (c to d) 4)) _ (t .1) in
+    four a b c d (ranged-of (0xF0 to 0xF7) a b c d 4 (t .0)) (lt-of _ _ (u .0)) (lt-of _ _ (u .1))
+rule-of a b c d (suc (suc (suc (suc (suc n))))) h = absurd (true≢false (sym h ∙ longer (row (a to b) (c to d) (suc (suc (suc (suc (suc n)))))) (omega arith)))
+
+pub rule : (r : Row) → fair r ≡ true → Rule r
+rule r h = rule-of (r .0 .0) (r .0 .1) (r .1 .0) (r .1 .1) (r .2) h
+
+-- ---- the rows one behind the other: what fits one of them is an encoding, and every encoding fits one of them
+
+record Climbs (lead from : ℕ) (r : Row) (rs : List Row) : Type 0 where
+  pub here : Rule r
+  pub starts : first r ≡ from
+  pub leads : In (lead to r .0 .1) (r .0 .0)
+  pub on : climbs (suc (r .0 .1)) (behind (last r)) rs ≡ true
+
+climbs-of : (lead from : ℕ) (r : Row) (rs : List Row) → climbs lead from (r ∷ rs) ≡ true → Climbs lead from r rs
+unfolding climbs
+climbs-of lead from r rs h =
+    let t = and-of _ _ h in
+    let u = and-of _ _ (t .1) in
+    let v = and-of _ _ (u .1) in
+    record { here = rule r (t .0); starts = eq-of _ _ (u .0); leads = within-of (lead to r .0 .1) (r .0 .0) (v .0); on = v .1 }
+
+rows-sound : (rs : List Row) (lead from : ℕ) (s : List ℕ) → climbs lead from rs ≡ true → 0 < charted rs s → Front utf8 s (charted rs s)
+unfolding charted
+rows-sound [] lead from s h = λ k. absurd (omega arith)
+rows-sound (r ∷ rs) lead from s h =
+    let c = climbs-of lead from r rs h in
+    each (λ n. 0 < n → Front utf8 s n) _ _ _
+    (λ l. each (λ n. 0 < n → Front utf8 s n) _ _ _
+    (λ f k. c .here .sound s (within-of (r .0) (u8At s 0) l) (follows-of r s f))
+    (λ f k. absurd (omega arith)))
+    (λ l. rows-sound rs (suc (r .0 .1)) (behind (last r)) s (c .on))
+
+-- no scalar value lies between c and the one behind it
+next-scalar : (c x : ℕ) → scalar x ≡ true → c < x → behind c ≤ x
+unfolding behind
+next-scalar c x good h =
+    each (λ n. n ≤ x) _ _ _
+    (λ e. let q = eq-of _ _ e in ⊎-elim (λ low. omega arith) (λ high. omega arith) (scalar-of x good))
+    (λ e. h)
+
+rows-complete : (rs : List Row) (lead from c : ℕ) (rest : List ℕ) → climbs lead from rs ≡ true → scalar c ≡ true → from ≤ c
+    → (lead ≤ u8At (utf8 c ++ rest) 0) × (charted rs (utf8 c ++ rest) ≡ length (utf8 c))
+unfolding charted climbs
+rows-complete [] lead from c rest h good k = absurd (omega (arith, eq-of _ _ h, scalar-top c good))
+rows-complete (r ∷ rs) lead from c rest h good k =
+    go (last r <? c) refl
+    (λ l. rows-complete rs (suc (r .0 .1)) (behind (last r)) c rest (g .on) good (next-scalar (last r) c good l))
+  where
+    g : Climbs lead from r rs
+    g = climbs-of lead from r rs h
+
+    go : (b : Bool) → (last r <? c) ≡ b
+        → (last r < c → (suc (r .0 .1) ≤ u8At (utf8 c ++ rest) 0) × (charted rs (utf8 c ++ rest) ≡ length (utf8 c)))
+        → (lead ≤ u8At (utf8 c ++ rest) 0) × (charted (r ∷ rs) (utf8 c ++ rest) ≡ length (utf8 c))
+    go false e later =
+        let f = g .here .fits c rest (omega (arith, g .starts)) (ge-of _ _ e) in
+        (omega (arith, g .leads, f .0), sym (yes _ _ (within-is (r .0) _ (f .0)) (yes _ _ (follows-is r _ (f .1 .0)) (sym (f .1 .1)))))
+    go true e later =
+        let f = later (lt-of _ _ e) in
+        (omega (arith, g .leads, f .0), sym (no _ _ (within-not (r .0) _ (f .0)) (sym (f .1))))
+
+-- what the chart finds is the encoding of a scalar value in front, and as long
+pub chart-sound : (s : List ℕ) → 0 < charted chart s → Front utf8 s (charted chart s)
+chart-sound s h = rows-sound chart 0 0 s chart-climbs h
+
+-- and where a list begins with the encoding of a scalar value, the chart finds it
+pub chart-complete : (c : ℕ) (rest : List ℕ) → scalar c ≡ true → charted chart (utf8 c ++ rest) ≡ length (utf8 c)
+chart-complete c rest good = rows-complete chart 0 0 c rest chart-climbs good (omega arith) .1
+
+-- so a list begins with n bytes that the chart finds exactly if it begins with n bytes that are the encoding of a scalar value
+pub chart-exactly : (s : List ℕ) (n : ℕ) → Exactly ((0 < n) × (charted chart s ≡ n)) (Front utf8 s n)
+chart-exactly = exactly utf8 (charted chart) utf8-some chart-sound chart-complete

@@ -1,4 +1,4 @@
--- The encodings: how long one is, and that the number put together from the bytes is the one that was encoded. Assumes nothing.
+-- The encodings form by form, how long one is, and what a scalar value is. Assumes nothing.
 use Prim.Native.Nat.{ℕ, _+_, _-_, _*_, _/_, _%_, _<_, _≤_}
 use native.Mathlib.Omega.{arith}
 use mathlib.Core.Path.{_≡_, refl, sym}
@@ -8,7 +8,7 @@ use mathlib.Core.List.{List, [], _∷_, _++_}
 use lib.ListN.{length}
 use Rattle.laws.specs.Rows.{_⇒_⁏_, _=?_, yes, no, lt, ge, lt-of, ge-of, each, and-of, and-is, or-of}
 use Rattle.octets.specs.Be.{be16}
-use Rattle.text.specs.Unicode.{scalar, utf8, utf16, encoded, decoded8, decoded16, decoded}
+use Rattle.text.specs.Unicode.{scalar, utf8, utf16, encoded}
 
 -- what holds of each form holds of the encoding
 pub utf8-forms : (P : List ℕ → Type 0) (c : ℕ)
@@ -34,12 +34,21 @@ abbrev Sized : List ℕ → Type 0
 Sized x = (1 ≤ length x) × (length x ≤ 4)
 
 -- an encoding has one to four bytes
+utf8-sized : (c : ℕ) → Sized (utf8 c)
+utf8-sized c = utf8-forms Sized c (λ h. omega arith) (λ h k. omega arith) (λ h k. omega arith) (λ h. omega arith)
+
+utf16-sized : (c : ℕ) → Sized (utf16 c)
+utf16-sized c = utf16-forms Sized c (λ h. omega arith) (λ h. omega arith)
+
+pub utf8-some : (c : ℕ) → 0 < length (utf8 c)
+utf8-some c = utf8-sized c .0
+
+pub utf16-some : (c : ℕ) → 0 < length (utf16 c)
+utf16-some c = utf16-sized c .0
+
 pub encoded-sized : (U c : ℕ) → (1 ≤ length (encoded U c)) × (length (encoded U c) ≤ 4)
 unfolding encoded
-encoded-sized U c =
-    each Sized _ _ _
-    (λ u. utf8-forms Sized c (λ h. omega arith) (λ h k. omega arith) (λ h k. omega arith) (λ h. omega arith))
-    (λ u. utf16-forms Sized c (λ h. omega arith) (λ h. omega arith))
+encoded-sized U c = each Sized _ _ _ (λ u. utf8-sized c) (λ u. utf16-sized c)
 
 -- a scalar value is no surrogate, and at most 10FFFF
 pub scalar-of : (c : ℕ) → scalar c ≡ true → (c < 0xD800) ⊎ ((0xDFFF < c) × (c < 0x110000))
@@ -58,40 +67,6 @@ scalar-is c h =
 pub scalar-top : (c : ℕ) → scalar c ≡ true → c < 0x110000
 scalar-top c h = ⊎-elim (λ low. omega arith) (λ high. omega arith) (scalar-of c h)
 
-decoded-utf8 : (c : ℕ) (rest : List ℕ) → c < 0x110000 → decoded8 (utf8 c ++ rest) ≡ c
-unfolding decoded8
-decoded-utf8 c rest top =
-    let a : c / 0x40 / 0x40 ≡ c / 0x1000 = omega arith in
-    let b : c / 0x1000 / 0x40 ≡ c / 0x40000 = omega arith in
-    utf8-forms (λ x. decoded8 (x ++ rest) ≡ c) c
-    (λ h. sym (yes _ _ (lt _ _ h) refl))
-    (λ h k. sym (no _ _ (ge _ _ (omega arith)) (yes _ _ (lt _ _ (omega arith)) (omega arith))))
-    (λ h k. sym (no _ _ (ge _ _ (omega arith)) (no _ _ (ge _ _ (omega arith)) (yes _ _ (lt _ _ (omega arith)) (omega arith)))))
-    (λ h. sym (no _ _ (ge _ _ (omega arith)) (no _ _ (ge _ _ (omega arith)) (no _ _ (ge _ _ (omega arith)) (omega arith)))))
-
 -- a number of 16 bits, back from its bytes
 pub two-bytes : (x : ℕ) → x < 0x10000 → x / 256 % 256 * 256 + x % 256 ≡ x
 two-bytes x h = omega arith
-
-decoded-utf16 : (c : ℕ) (rest : List ℕ) → scalar c ≡ true → decoded16 (utf16 c ++ rest) ≡ c
-unfolding decoded16
-decoded-utf16 c rest good =
-    utf16-forms (λ x. decoded16 (x ++ rest) ≡ c) c
-    (λ h. rw (two-bytes c h)
-    (⊎-elim
-    (λ low. sym (yes _ _ (lt _ _ low) refl))
-    (λ high. sym (no _ _ (ge _ _ (omega arith)) (yes _ _ (lt _ _ (omega arith)) refl)))
-    (scalar-of c good)))
-    (λ h.
-    let top = scalar-top c good in
-    rw (two-bytes (0xD800 + (c - 0x10000) / 0x400) (omega arith), two-bytes (0xDC00 + (c - 0x10000) % 0x400) (omega arith))
-    (sym (no _ _ (ge _ _ (omega arith)) (no _ _ (ge _ _ (omega arith)) (omega arith)))))
-
--- the number put together from a scalar value's bytes is that value, whatever follows them
-pub decoded-encoded : (U c : ℕ) (rest : List ℕ) → scalar c ≡ true → decoded U (encoded U c ++ rest) ≡ c
-unfolding decoded encoded _⇒_⁏_
-decoded-encoded U c rest good = go (U =? 0)
-  where
-    go : (b : Bool) → (b ⇒ decoded8 ((b ⇒ utf8 c ⁏ utf16 c) ++ rest) ⁏ decoded16 ((b ⇒ utf8 c ⁏ utf16 c) ++ rest)) ≡ c
-    go true = decoded-utf8 c rest (scalar-top c good)
-    go false = decoded-utf16 c rest good

@@ -4,46 +4,37 @@ use native.Mathlib.Omega.{arith}
 use mathlib.Core.Path.{_≡_, refl, sym, ap, _∙_}
 use mathlib.Core.Bool.{Bool, true, false}
 use mathlib.Core.List.{List, _++_}
-use lib.ListN.{length, take, drop, length-take, length-drop, take-append-drop}
-use lib.Seq.{take-append-seam, length-take-le}
-use Rattle.laws.specs.Rows.{_⇒_⁏_, yes, and-of, and-is}
-use Rattle.text.specs.Unicode.{scalar, encoded, begins, decoded, character}
-use Rattle.text.specs.Begins.{begins-append, begins-split}
-use Rattle.text.specs.Encoding.{encoded-sized, decoded-encoded}
-
--- the character that s begins with: its value, and its bytes in front
-pub record CharacterFound (U : ℕ) (s : List ℕ) : Type 0 where
-  pub value : ℕ
-  pub good : scalar value ≡ true
-  pub size : character U s ≡ length (encoded U value)
-  pub front : take (character U s) s ≡ encoded U value
-
--- a row's answer that is not the last row's
-positive : (b : Bool) (k : ℕ) → 0 < (b ⇒ k ⁏ 0) → (b ≡ true) × ((b ⇒ k ⁏ 0) ≡ k)
-unfolding _⇒_⁏_
-positive true k h = (refl, refl)
-positive false k h = absurd (omega arith)
+use lib.ListN.{length, drop, getD, length-take, length-drop}
+use lib.Seq.{drop-cons}
+use Rattle.laws.specs.Rows.{_⇒_⁏_, _=?_, yes, no, eq, ne}
+use Rattle.octets.specs.Be.{u8At}
+use Rattle.text.specs.declared.Row.{Row}
+use Rattle.text.specs.Chart.{chart, within, follows, charted, paired}
+use Rattle.text.specs.Unicode.{scalar, utf8, utf16, encoded, character}
+use Rattle.text.specs.Laws.{saw}
+use Rattle.text.specs.Encoding.{encoded-sized}
+use Rattle.text.specs.Front.{Front}
+use Rattle.text.specs.Eight.{chart-sound, chart-complete}
+use Rattle.text.specs.Sixteen.{paired-sound, paired-complete}
 
 -- where the finder finds something, s begins with the encoding of a scalar value, which is as long as the finder says
-pub finder-sound : (U : ℕ) (s : List ℕ) → 0 < character U s → CharacterFound U s
-unfolding character
-finder-sound U s h =
-    let t = positive _ _ h in
-    let g = and-of _ _ (t .0) in
-    let x = encoded U (decoded U s) in
-    record {
-      value = decoded U s;
-      good = g .0;
-      size = t .1;
-      front = ap (λ (k : ℕ). take k s) (t .1) ∙ ap (take (length x)) (begins-split x s (g .1)) ∙ take-append-seam x (drop (length x) s);
-    }
+pub finder-sound : (U : ℕ) (s : List ℕ) → 0 < character U s → Front (encoded U) s (character U s)
+unfolding character encoded _⇒_⁏_
+finder-sound U s = go (U =? 0)
+  where
+    go : (b : Bool) → 0 < (b ⇒ charted chart s ⁏ paired s) → Front (λ c. b ⇒ utf8 c ⁏ utf16 c) s (b ⇒ charted chart s ⁏ paired s)
+    go true = chart-sound s
+    go false = paired-sound s
 
 -- where s begins with the encoding of a scalar value, the finder finds it
 pub finder-complete : (U c : ℕ) (rest : List ℕ) → scalar c ≡ true → character U (encoded U c ++ rest) ≡ length (encoded U c)
-unfolding character
-finder-complete U c rest good =
-    rw (decoded-encoded U c rest good)
-    (sym (yes _ _ (and-is _ _ good (begins-append (encoded U c) rest)) refl))
+unfolding character encoded _⇒_⁏_
+finder-complete U c rest good = go (U =? 0)
+  where
+    go : (b : Bool)
+        → (b ⇒ charted chart ((b ⇒ utf8 c ⁏ utf16 c) ++ rest) ⁏ paired ((b ⇒ utf8 c ⁏ utf16 c) ++ rest)) ≡ length (b ⇒ utf8 c ⁏ utf16 c)
+    go true = chart-complete c rest good
+    go false = paired-complete c rest good
 
 -- what is found lies within the bytes, and is at most four of them
 pub character-within : (U : ℕ) (s : List ℕ) → (character U s ≤ length s) × (character U s ≤ 4)
@@ -54,28 +45,43 @@ character-within U s = go (character U s) refl
     go (suc k) e =
         let f = finder-sound U s (omega arith) in
         let z = encoded-sized U (f .value) in
-        omega (arith, ap length (f .front), length-take (character U s) s)
+        omega (arith, ap length (f .front), f .size, length-take (character U s) s)
 
 -- so a place behind what is found there lies within the bytes too
 pub character-at : (U : ℕ) (s : List ℕ) (at : ℕ) → at ≤ length s → at + character U (drop at s) ≤ length s
 character-at U s at h = omega (arith, character-within U (drop at s), length-drop at s)
 
--- ---- for the code: what it has to show where it finds a character, and where it finds none
+-- ---- for the code: which of the two rules is asked
 
-pub found-is : (U : ℕ) (s : List ℕ) (n : ℕ) → scalar (decoded U s) ≡ true → encoded U (decoded U s) ≡ take n s → n ≤ length s
-    → n ≡ character U s
+module _ (n : ℕ) (s : List ℕ) where
+  pub by-chart : n ≡ charted chart s → n ≡ character 0 s
+  unfolding character
+  by-chart h = yes _ _ (eq 0 0 refl) h
+
+  pub by-units : n ≡ paired s → n ≡ character 1 s
+  unfolding character
+  by-units h = no _ _ (ne 1 0 (λ e. omega arith)) h
+
+-- how a proof walks the chart: the k-th of its rows is asked for the lead byte b, and passed over where b is none of its leads; else it
+-- answers. Behind the last row there is none
+module _ (k : ℕ) (s : List ℕ) (n : ℕ) (rows : List Row) (d : Row) (t : Bool) (b : ℕ)
+    (h : k < 9) (e : rows ≡ chart) (asked : t ≡ within (getD rows k d .0) b) (lead : b ≡ u8At s 0) where
+  asked-of : (v : Bool) → t ≡ v → within (getD chart k d .0) (u8At s 0) ≡ v
+  asked-of v g = saw (within (getD chart k d .0)) t b (u8At s 0) v (asked ∙ ap (λ (l : List Row). within (getD l k d .0) b) e) lead g
+
+  pub passed : t ≡ false → n ≡ charted (drop (suc k) chart) s → n ≡ charted (drop k chart) s
+  unfolding charted chart
+  passed g on = rw (drop-cons chart k d h) (no _ _ (asked-of false g) on)
+
+  pub told : t ≡ true → n ≡ (follows (getD rows k d) s ⇒ getD rows k d .2 ⁏ 0) → n ≡ charted (drop k chart) s
+  unfolding charted chart
+  told g on = rw (drop-cons chart k d h) (yes _ _ (asked-of true g) (rw e at on))
+
+pub untold : (s : List ℕ) → 0 ≡ charted (drop 9 chart) s
+unfolding charted chart
+untold s = refl
+
+-- any bit but 0 is 1
+pub one-bit : (U : ℕ) (s : List ℕ) → (U ≡ 0 → ⊥) → character 1 s ≡ character U s
 unfolding character
-found-is U s n good e h =
-    let b : begins (take n s) s ≡ true = rw take-append-drop at (begins-append (take n s) (drop n s)) in
-    let l : length (take n s) ≡ n = length-take-le n s h in
-    yes _ _ (and-is _ _ good (rw e b)) (rw e (sym l))
-
-pub refused-is : (U : ℕ) (s : List ℕ) → ((c : ℕ) (rest : List ℕ) → scalar c ≡ true → s ≡ encoded U c ++ rest → ⊥)
-    → 0 ≡ character U s
-refused-is U s h = go (character U s) refl
-  where
-    go : (k : ℕ) → character U s ≡ k → 0 ≡ character U s
-    go zero e = sym e
-    go (suc k) e =
-        let f = finder-sound U s (omega arith) in
-        absurd (h (f .value) (drop (character U s) s) (f .good) (rw (← (f .front)) (sym (take-append-drop (character U s) s))))
+one-bit U s h = rw (ne U 0 h, ne 1 0 (λ e. omega arith))

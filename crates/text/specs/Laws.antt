@@ -1,7 +1,7 @@
 -- Laws of a branch on `!r` and of a list's first elements. Assumes nothing.
 use Prim.Native.Nat.{ℕ, suc, _<_}
 use native.Mathlib.Omega.{arith}
-use mathlib.Core.Path.{_≡_, sym, ap}
+use mathlib.Core.Path.{_≡_, sym, ap, _∙_}
 use mathlib.Core.Bool.{Bool, true, false, not}
 use mathlib.Core.List.{List, _∷_}
 use lib.ListN.{length, take, drop, getD, length-drop}
@@ -15,6 +15,14 @@ told-yes false b p h = let z : _≡_ {A = ℕ} 0 1 = cc in absurd (omega arith)
 pub told-no : (r b : Bool) → r ≡ b → not r ≡ true → b ≡ true → ⊥
 told-no true b p h k = let z : _≡_ {A = ℕ} 0 1 = cc in omega arith
 told-no false b p h k = let z : _≡_ {A = ℕ} 0 1 = cc in omega arith
+
+-- a condition that a function decided of what another one read
+pub saw : {A : Type 0} (f : A → Bool) (t : Bool) (a b : A) (v : Bool) → t ≡ f a → a ≡ b → t ≡ v → f b ≡ v
+saw f t a b v p e h = ap f (sym e) ∙ sym p ∙ h
+
+pub saw-not : {A : Type 0} (f : A → Bool) (t : Bool) (a b : A) (v : Bool) → t ≡ f a → a ≡ b → not t ≡ v → f b ≡ not v
+saw-not f true a b v p e h = ap f (sym e) ∙ sym p ∙ ap not h
+saw-not f false a b v p e h = ap f (sym e) ∙ sym p ∙ ap not h
 
 -- the first elements, one by one
 pub took : {A : Type 0} (d : A) (s : List A) (i n : ℕ) (x : List A) → i < length s → x ≡ take n (drop (suc i) s)

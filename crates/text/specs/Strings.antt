@@ -26,7 +26,7 @@ well-step U c rest good =
     (ap (wellFormed U) (sym (drop-at x rest (character U (x ++ rest)) (sym k))))))
 
 -- whole characters in front are passed over
-well-past : (U : ℕ) (cs rest : List ℕ) → scalars cs ≡ true → wellFormed U (encodings U cs ++ rest) ≡ wellFormed U rest
+pub well-past : (U : ℕ) (cs rest : List ℕ) → scalars cs ≡ true → wellFormed U (encodings U cs ++ rest) ≡ wellFormed U rest
 unfolding encodings scalars
 well-past U [] rest good = refl
 well-past U (c ∷ cs) rest good =

@@ -1,12 +1,14 @@
 -- Characters and strings, as the Unicode Standard has them: the scalar values, their two encodings, and what a place in a list of
 -- bytes begins with. U is a unit's bit: 0 is UTF-8, anything else UTF-16 big-endian. All of it is total. Assumes nothing.
+-- Three definitions have to be believed, `scalar`, `utf8` and `utf16`: all else here is said by them, or proved to say the same.
 use Prim.Native.Nat.{ℕ, zero, suc, _+_, _-_, _*_, _/_, _%_}
 use mathlib.Core.Path.{_≡_}
 use mathlib.Core.Bool.{Bool, true, false}
 use mathlib.Core.List.{List, [], _∷_, _++_}
 use lib.ListN.{length, drop}
 use Rattle.laws.specs.Rows.{_⇒_⁏_, _or_, _and_, _<?_, _=?_}
-use Rattle.octets.specs.Be.{u8At, u16At, be16}
+use Rattle.octets.specs.Be.{be16}
+use Rattle.text.specs.Chart.{chart, charted, paired}
 
 -- ---- a character's value, and its bytes
 
@@ -32,33 +34,10 @@ encoded U c = U =? 0 ⇒ utf8 c ⁏ utf16 c
 
 -- ---- the character that a list of bytes begins with
 
--- whether the first list is a prefix of the second
-unfoldable pub begins : List ℕ → List ℕ → Bool
-begins [] s = true
-begins (a ∷ x) [] = false
-begins (a ∷ x) (b ∷ s) = a =? b and begins x s
-
--- the one number whose encoding s can begin with, by the lead byte (below 80, E0, F0) or by a high surrogate (D800 to DBFF) in
--- front. It means nothing where s begins with no encoding: `character` looks
-unfoldable pub decoded8 : List ℕ → ℕ
-decoded8 s =
-    u8At s 0 <? 0x80 ⇒ u8At s 0
-    ⁏ u8At s 0 <? 0xE0 ⇒ (u8At s 0 - 0xC0) * 0x40 + (u8At s 1 - 0x80)
-    ⁏ u8At s 0 <? 0xF0 ⇒ (u8At s 0 - 0xE0) * 0x1000 + (u8At s 1 - 0x80) * 0x40 + (u8At s 2 - 0x80)
-    ⁏ (u8At s 0 - 0xF0) * 0x40000 + (u8At s 1 - 0x80) * 0x1000 + (u8At s 2 - 0x80) * 0x40 + (u8At s 3 - 0x80)
-
-unfoldable pub decoded16 : List ℕ → ℕ
-decoded16 s =
-    u16At s 0 <? 0xD800 ⇒ u16At s 0
-    ⁏ 0xDBFF <? u16At s 0 ⇒ u16At s 0
-    ⁏ 0x10000 + (u16At s 0 - 0xD800) * 0x400 + (u16At s 2 - 0xDC00)
-
-unfoldable pub decoded : (U : ℕ) → List ℕ → ℕ
-decoded U s = U =? 0 ⇒ decoded8 s ⁏ decoded16 s
-
--- how many bytes the well-formed character has that s begins with; 0 where s begins with none
+-- how many bytes the well-formed character has that s begins with; 0 where s begins with none. That these are the encodings of the scalar
+-- values is proved (Finder)
 unfoldable pub character : (U : ℕ) → List ℕ → ℕ
-character U s = scalar (decoded U s) and begins (encoded U (decoded U s)) s ⇒ length (encoded U (decoded U s)) ⁏ 0
+character U s = U =? 0 ⇒ charted chart s ⁏ paired s
 
 -- ---- strings
 

@@ -12,7 +12,8 @@ use Rattle.laws.specs.Rows.{_⇒_⁏_, _<?_, _=?_, or-none}
 use Rattle.paper.specs.declared.Refusal.the-variants as R
 use Rattle.paper.specs.declared.Outcome.{Outcome}
 use Rattle.paper.specs.declared.Outcome.the-variants as O
-use Rattle.text.specs.Unicode.{scalar, utf8, encoded, begins, decoded8, decoded, character, wellFormed, wellWithin, reach, reachWithin}
+use Rattle.text.specs.Chart.{chart, within, follows, charted}
+use Rattle.text.specs.Unicode.{character, wellFormed, wellWithin, reach, reachWithin}
 use Rattle.unit.specs.Layout.{readOf, broken, judged, fieldsOf, least, badPart, badWhole}
 use Rattle.unit.specs.Head.{partHead}
 use Rattle.joining.specs.Joining as J
@@ -177,7 +178,7 @@ unfolding _⇒_⁏_ _<?_ _=?_ readOf broken judged fieldsOf least badPart badWho
     telling laid kept missing piecesIn piecesOf among laterPart sampleOf conflicts six usedUp wholeTaken completed joining received
     standsAt improper stranger short ownMarks ordered receivedAmong ones markedRow markedUsed J.laters J.going J.ordered J.sound flatten
     partHead written count uncut unwritable illFormed unsized wellFormed wellWithin long partUnit payloadData payloadUnit pieces
-    modified cuts cutsWithin reach reachWithin character scalar utf8 encoded begins decoded8 decoded
+    modified cuts cutsWithin reach reachWithin character chart within follows charted
 one-and-five = (refl, refl)
 
 -- case 9 by laws, for its stores are not computed; `describing` says the same for any memory that is long enough
@@ -198,7 +199,7 @@ unfolding _⇒_⁏_ _<?_ _=?_ readOf broken judged fieldsOf least badPart badWho
     telling laid kept missing piecesIn piecesOf among laterPart sampleOf conflicts six usedUp wholeTaken completed joining received
     standsAt improper stranger short ownMarks ordered receivedAmong ones markedRow markedUsed J.laters J.going J.ordered J.sound flatten
     partHead written count uncut unwritable illFormed unsized wellFormed wellWithin long partUnit payloadData payloadUnit pieces
-    modified cuts cutsWithin reach reachWithin character scalar utf8 encoded begins decoded8 decoded
+    modified cuts cutsWithin reach reachWithin character chart within follows charted
 each-holds = (
   inl (one-and-five .0),
   (

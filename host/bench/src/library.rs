@@ -77,6 +77,10 @@ pub type GiveUpFor = unsafe extern "C" fn(
     u32,
 ) -> usize;
 
+pub type Character = unsafe extern "C" fn(usize, *const u8, usize, usize) -> usize;
+
+pub type WellFormed = unsafe extern "C" fn(usize, *const u8, usize) -> bool;
+
 /// The calls on a relay that was set up.
 #[derive(Clone, Copy)]
 pub enum Calls {
@@ -96,35 +100,40 @@ pub struct Library {
     pub stores: Count,
     pub set_up: SetUp,
     pub calls: Calls,
+    pub character: Character,
+    /// Older libraries do not have it.
+    pub well_formed: Option<WellFormed>,
 }
 
 mod linked {
-    use super::{Count, GiveUp, Receive, SetUp};
+    use super::{Character, Count, GiveUp, Receive, SetUp, WellFormed};
 
     macro_rules! linked {
-        ($($constant:ident: $kind:ty = $name:ident($($arg:ident: $of:ty),*);)*) => {
-            extern "C" { $(fn $name($($arg: $of),*) -> usize;)* }
+        ($($constant:ident: $kind:ty = $name:ident($($arg:ident: $of:ty),*) -> $answer:ty;)*) => {
+            extern "C" { $(fn $name($($arg: $of),*) -> $answer;)* }
             $(pub const $constant: $kind = $name;)*
         };
     }
 
     linked! {
-        PLACE_SIZE: unsafe extern "C" fn() -> usize = spindlefig_place_size();
-        PLACES: Count = spindlefig_places(n: usize);
-        ROWS: Count = spindlefig_rows(n: usize);
-        MARKS: Count = spindlefig_marks(n: usize);
-        STORES: Count = spindlefig_stores(n: usize);
+        PLACE_SIZE: unsafe extern "C" fn() -> usize = spindlefig_place_size() -> usize;
+        PLACES: Count = spindlefig_places(n: usize) -> usize;
+        ROWS: Count = spindlefig_rows(n: usize) -> usize;
+        MARKS: Count = spindlefig_marks(n: usize) -> usize;
+        STORES: Count = spindlefig_stores(n: usize) -> usize;
         SET_UP: SetUp = spindlefig_set_up(n: usize, places: *mut u64, places_len: usize,
             rows: *mut u32, rows_len: usize, marks: *mut u32, marks_len: usize,
-            stores: *mut u8, stores_len: usize);
+            stores: *mut u8, stores_len: usize) -> usize;
         RECEIVE: Receive = spindlefig_receive(places: *mut u64, places_len: usize,
             rows: *mut u32, rows_len: usize, marks: *mut u32, marks_len: usize,
             stores: *mut u8, stores_len: usize, desk: usize, time: u32,
             rest: *const u8, rest_len: usize, out: *mut u8, out_len: usize,
-            row: *mut u64, row_len: usize);
+            row: *mut u64, row_len: usize) -> usize;
         GIVE_UP: GiveUp = spindlefig_give_up(places: *mut u64, places_len: usize,
             rows: *mut u32, rows_len: usize, marks: *mut u32, marks_len: usize,
-            desk: usize, time: u32);
+            desk: usize, time: u32) -> usize;
+        CHARACTER: Character = spindlefig_character(u: usize, s: *const u8, s_len: usize, at: usize) -> usize;
+        WELL_FORMED: WellFormed = spindlefig_well_formed(u: usize, s: *const u8, s_len: usize) -> bool;
     }
 }
 
@@ -146,6 +155,8 @@ impl Library {
             stores: linked::STORES,
             set_up: linked::SET_UP,
             calls: Calls::Now(linked::RECEIVE, linked::GIVE_UP),
+            character: linked::CHARACTER,
+            well_formed: Some(linked::WELL_FORMED),
         }
     }
 
@@ -194,7 +205,7 @@ fn load(path: &Path) -> Result<Library, String> {
         return Err(format!("{} cannot be loaded", full.display()));
     }
     // SAFETY: these functions have had these types in every version of the library.
-    let (place_size, places, rows, marks, stores, set_up) = unsafe {
+    let (place_size, places, rows, marks, stores, set_up, character) = unsafe {
         (
             symbol(library, c"spindlefig_place_size")?,
             symbol(library, c"spindlefig_places")?,
@@ -202,8 +213,11 @@ fn load(path: &Path) -> Result<Library, String> {
             symbol::<Count>(library, c"spindlefig_marks")?,
             symbol(library, c"spindlefig_stores")?,
             symbol(library, c"spindlefig_set_up")?,
+            symbol(library, c"spindlefig_character")?,
         )
     };
+    // SAFETY: where the library has this function, it has this type.
+    let well_formed = unsafe { symbol(library, c"spindlefig_well_formed") };
     Ok(Library {
         place_size,
         places,
@@ -212,6 +226,8 @@ fn load(path: &Path) -> Result<Library, String> {
         stores,
         set_up,
         calls: calls(library, marks)?,
+        character,
+        well_formed: well_formed.ok(),
     })
 }
 

@@ -1,5 +1,6 @@
 //! How fast the proved relay is, beside the second one, the rival, a plain copy of the same bytes
-//! and, if one is named, an old version of itself: all in one run. And how much stack it takes.
+//! and, if one is named, an old version of itself: all in one run. The same for strings, beside
+//! Rust's own decoders. And how much stack it takes.
 
 mod compiled;
 mod enter;
@@ -7,6 +8,7 @@ mod hears;
 mod library;
 mod load;
 mod stack;
+mod strings;
 
 use compiled::Compiled;
 use hears::{Copied, Hears};
@@ -26,7 +28,8 @@ bench [--old LIBRARY] [--runs RUNS]
 Plays the same units through the proved relay, the second one, the rival and a
 plain copy, by turns, and prints the nanoseconds a unit of each one's quickest
 run, and how many times as long as the others the proved relay takes. Then the
-bytes of stack that its calls take.
+same for strings, beside Rust's own decoders, and the bytes of stack that the
+relay's calls take.
 
   --old LIBRARY  an earlier libexport.a (turned into a shared object by cc) or a
                  shared object made of one: a column of its own in the same run.
@@ -187,6 +190,7 @@ fn main() -> ExitCode {
     };
     let proved = Library::linked();
     print_times(&proved, old.as_ref(), options.runs);
+    strings::print(&proved, old.as_ref(), options.runs);
     print_stack(&proved, old.as_ref());
     ExitCode::SUCCESS
 }

@@ -53,3 +53,16 @@ pub use writer::{Caption, Writer, Written, LIMIT};
 pub fn character(u: usize, s: &[u8], at: usize) -> usize {
     sys::character(u, s, at)
 }
+
+/// Whether all of a string is well-formed UTF-8 (u is 0) or UTF-16 (u is 1).
+///
+/// ```
+/// use spindlefig::well_formed;
+///
+/// assert!(well_formed(0, "né".as_bytes()));
+/// assert!(!well_formed(0, &[0xed, 0xa0, 0x80]));
+/// assert!(!well_formed(1, &[0xd8, 0x3d, 0x00, 0x41]));
+/// ```
+pub fn well_formed(u: usize, s: &[u8]) -> bool {
+    sys::well_formed(u, s)
+}

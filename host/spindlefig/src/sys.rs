@@ -103,6 +103,7 @@ extern "C" {
         row_len: usize,
     );
     fn spindlefig_character(u: usize, s: *const u8, s_len: usize, at: usize) -> usize;
+    fn spindlefig_well_formed(u: usize, s: *const u8, s_len: usize) -> bool;
 }
 
 /// The memory of a relay, lent to every call. The places are words: only the library reads them.
@@ -337,6 +338,11 @@ pub(crate) fn step(modifiers: &[u8], at: usize) -> Row {
 pub(crate) fn character(u: usize, s: &[u8], at: usize) -> usize {
     // SAFETY: the pointer goes with its own slice's length.
     unsafe { spindlefig_character(u, s.as_ptr(), s.len(), at) }
+}
+
+pub(crate) fn well_formed(u: usize, s: &[u8]) -> bool {
+    // SAFETY: the pointer goes with its own slice's length.
+    unsafe { spindlefig_well_formed(u, s.as_ptr(), s.len()) }
 }
 
 #[cfg(test)]

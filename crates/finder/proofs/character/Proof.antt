@@ -6,7 +6,7 @@ use denote.Ref.{now}
 use lib.ListN.{drop}
 use Rattle.text.specs.Unicode.{character}
 use Rattle.text.specs.Laws.{all-behind}
-use Rattle.text.specs.Sixteen.{one-bit}
+use Rattle.text.specs.Finder.{one-bit}
 use Rattle.finder.proofs.character.Statement.{statement}
 use Rattle.finder.proofs.character.Tie as tie
 

@@ -1,60 +1,70 @@
--- `finder::sixteen` meets its contract: the bytes are of one of the two forms, or of neither. Assumes nothing.
-use native.Mathlib.Omega.{arith}
-use mathlib.Core.Logic.{inl, inr}
+-- `finder::sixteen` meets its contract: each return stands at the row that the ranges tell. Assumes nothing.
+use mathlib.Core.Path.{refl, sym}
 use borrow.Author.Needs.{needs}
-use denote.Ref.{now}
-use Rattle.text.specs.Sixteen.{sixteen-short, sixteen-lone, sixteen-one, sixteen-two}
+use Rattle.laws.specs.Rows.{yes, no, and-is}
+use Rattle.text.specs.Chart.{_to_, within, paired}
+use Rattle.text.specs.Laws.{saw, saw-not}
+use Rattle.text.specs.Finder.{by-units}
 use Rattle.finder.proofs.sixteen.Statement.{statement}
 use Rattle.finder.proofs.sixteen.Tie as tie
 
-number16-requires : tie.Need-number16-requires
-number16-requires c κs = search needs
-
-number16-requires-2 : tie.Need-number16-requires-2
-number16-requires-2 c κs = search needs
-
 returns : tie.Need-returns
-returns c = sixteen-short _ (c .if1 .taken)
+unfolding paired
+returns c =
+    let a = saw (within (0x0000 to 0xD7FF)) _ _ _ _ (c .before .within .ensures) (c .before .before .unit .ensures) (c .if1 .taken) in
+    by-units _ _ (yes _ _ (sym (yes _ _ a refl)) refl)
 
 returns-2 : tie.Need-returns-2
+unfolding paired
 returns-2 c =
-    let bytes = c .before .before .before .before .shared-slice-known .given in
-    sixteen-one (now (c .before .before .before .before .before .args .s)) (omega (arith, bytes 0)) (omega (arith, bytes 1)) (omega arith) (inl (omega arith))
+    let u = c .before .before .before .before .unit .ensures in
+    let a = saw (within (0x0000 to 0xD7FF)) _ _ _ _ (c .before .before .before .within .ensures) u (c .before .before .if1 .left) in
+    let b = saw (within (0xE000 to 0xFFFF)) _ _ _ _ (c .before .within2 .ensures) u (c .if2 .taken) in
+    by-units _ _ (yes _ _ (sym (no _ _ a (sym b))) refl)
 
 returns-3 : tie.Need-returns-3
+unfolding paired
 returns-3 c =
-    let bytes = c .before .before .before .before .before .shared-slice-known .given in
-    sixteen-one (now (c .before .before .before .before .before .before .args .s)) (omega (arith, bytes 0)) (omega (arith, bytes 1)) (omega arith) (inr (omega arith))
+    let u = c .before .before .before .before .before .before .unit .ensures in
+    let a = saw (within (0x0000 to 0xD7FF)) _ _ _ _ (c .before .before .before .before .before .within .ensures) u (c .before .before .before .before .if1 .left) in
+    let b = saw (within (0xE000 to 0xFFFF)) _ _ _ _ (c .before .before .before .within2 .ensures) u (c .before .before .if2 .left) in
+    let h = saw-not (within (0xD800 to 0xDBFF)) _ _ _ _ (c .before .within3 .ensures) u (c .if3 .taken) in
+    by-units _ _ (no _ _ (sym (no _ _ a (sym b))) (no _ _ (sym (no _ _ h refl)) refl))
 
 returns-4 : tie.Need-returns-4
-returns-4 c = sixteen-lone _ (omega arith) (omega arith) (λ l h. omega arith)
+unfolding paired
+returns-4 c =
+    let d = c .before .before .before .before in
+    let u = d .before .before .before .before .before .unit .ensures in
+    let a = saw (within (0x0000 to 0xD7FF)) _ _ _ _ (d .before .before .before .before .within .ensures) u (d .before .before .before .if1 .left) in
+    let b = saw (within (0xE000 to 0xFFFF)) _ _ _ _ (d .before .before .within2 .ensures) u (d .before .if2 .left) in
+    let h = saw-not (within (0xD800 to 0xDBFF)) _ _ _ _ (d .within3 .ensures) u (c .before .before .before .if3 .left) in
+    let l = saw (within (0xDC00 to 0xDFFF)) _ _ _ _ (c .before .within4 .ensures) (c .before .before .unit2 .ensures) (c .if4 .taken) in
+    by-units _ _ (no _ _ (sym (no _ _ a (sym b))) (yes _ _ (and-is _ _ h l) refl))
 
 returns-5 : tie.Need-returns-5
-returns-5 c = sixteen-lone _ (omega arith) (omega arith) (λ l h. omega arith)
-
-returns-6 : tie.Need-returns-6
-returns-6 c = sixteen-lone _ (omega arith) (omega arith) (λ l h. omega arith)
-
-returns-7 : tie.Need-returns-7
-returns-7 c = sixteen-lone _ (omega arith) (omega arith) (λ l h. omega arith)
-
-returns-8 : tie.Need-returns-8
-returns-8 c =
-    let bytes = c .before .before .before .before .before .before .before .before .before .shared-slice-known .given in
-    sixteen-two (now (c .before .before .before .before .before .before .before .before .before .before .args .s)) (omega (arith, bytes 0)) (omega (arith, bytes 1)) (omega (arith, bytes 2)) (omega (arith, bytes 3)) (omega arith)
-    (record { high = omega arith; high-end = omega arith; low = omega arith; low-end = omega arith })
+unfolding paired
+returns-5 c =
+    let d = c .before .before .before .before in
+    let u = d .before .before .before .before .before .unit .ensures in
+    let a = saw (within (0x0000 to 0xD7FF)) _ _ _ _ (d .before .before .before .before .within .ensures) u (d .before .before .before .if1 .left) in
+    let b = saw (within (0xE000 to 0xFFFF)) _ _ _ _ (d .before .before .within2 .ensures) u (d .before .if2 .left) in
+    let h = saw-not (within (0xD800 to 0xDBFF)) _ _ _ _ (d .within3 .ensures) u (c .before .before .before .if3 .left) in
+    let l = saw (within (0xDC00 to 0xDFFF)) _ _ _ _ (c .before .within4 .ensures) (c .before .before .unit2 .ensures) (c .if4 .left) in
+    by-units _ _ (no _ _ (sym (no _ _ a (sym b))) (no _ _ (sym (yes _ _ h (sym l))) refl))
 
 pub sixteen-spec : {M : Type 1} → statement M
 sixteen-spec =
     tie.close
     (tie.spec
-    number16-requires
-    number16-requires-2
+    (λ c κs. search needs)
+    (λ c κs. search needs)
     returns
+    (λ c κs. search needs)
     returns-2
+    (λ c κs. search needs)
     returns-3
+    (λ c κs. search needs)
+    (λ c κs. search needs)
     returns-4
-    returns-5
-    returns-6
-    returns-7
-    returns-8)
+    returns-5)

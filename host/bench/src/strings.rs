@@ -1,0 +1,172 @@
+//! Strings: whether 1,024 bytes are well-formed, beside Rust's own decoders, and the same bytes
+//! character by character.
+
+use crate::library::{Library, WellFormed};
+use std::hint::black_box;
+use std::time::Instant;
+
+/// Bytes of a string, at most: whole characters of what is repeated.
+const BYTES: usize = 1024;
+
+/// Checks of one short run.
+const CHECKS: usize = 64;
+
+/// What is repeated.
+const TEXTS: [(&str, &str); 4] = [
+    ("ASCII", "To be, or not to be, "),
+    ("Greek", "αβγδεζηθικ"),
+    ("emoji", "😀🎭🎬🎪"),
+    ("mixed", "Où est né l’abbé? — 😀 "),
+];
+
+struct Text {
+    name: String,
+    u: usize,
+    bytes: Vec<u8>,
+}
+
+fn bytes(u: usize, character: char) -> Vec<u8> {
+    match u {
+        0 => character.encode_utf8(&mut [0; 4]).as_bytes().to_vec(),
+        _ => character
+            .encode_utf16(&mut [0; 2])
+            .iter()
+            .flat_map(|unit| unit.to_be_bytes())
+            .collect(),
+    }
+}
+
+fn text(name: &str, u: usize, repeated: &str) -> Text {
+    let mut filled = Vec::new();
+    for character in repeated.chars().cycle() {
+        let next = bytes(u, character);
+        if filled.len() + next.len() > BYTES {
+            break;
+        }
+        filled.extend(next);
+    }
+    let encoding = if u == 0 { "UTF-8" } else { "UTF-16" };
+    Text {
+        name: format!("{name} in {encoding}"),
+        u,
+        bytes: filled,
+    }
+}
+
+fn texts() -> impl Iterator<Item = Text> {
+    let encodings = [0, 1].into_iter();
+    encodings.flat_map(|u| TEXTS.map(|(name, repeated)| text(name, u, repeated)))
+}
+
+/// What Rust's own decoders say.
+fn rust(u: usize, s: &[u8]) -> bool {
+    if u == 0 {
+        return std::str::from_utf8(s).is_ok();
+    }
+    let units = s.chunks_exact(2);
+    let even = units.remainder().is_empty();
+    let units = units.map(|unit| u16::from_be_bytes([unit[0], unit[1]]));
+    even && char::decode_utf16(units).all(|character| character.is_ok())
+}
+
+fn well_formed(check: WellFormed, u: usize, s: &[u8]) -> bool {
+    // SAFETY: the pointer goes with its own slice's length.
+    unsafe { check(u, s.as_ptr(), s.len()) }
+}
+
+/// How many characters the string has, found one by one.
+fn characters(library: &Library, u: usize, s: &[u8]) -> usize {
+    let (mut at, mut count) = (0, 0);
+    while at < s.len() {
+        // SAFETY: the pointer goes with its own slice's length.
+        let length = unsafe { (library.character)(u, s.as_ptr(), s.len(), at) };
+        assert_ne!(length, 0, "the string is well-formed");
+        at += length;
+        count += 1;
+    }
+    count
+}
+
+/// Nanoseconds a check, of one short run.
+fn timed(check: impl Fn(usize, &[u8]) -> bool, text: &Text) -> f64 {
+    let start = Instant::now();
+    for _ in 0..CHECKS {
+        assert!(check(black_box(text.u), black_box(&text.bytes)));
+    }
+    start.elapsed().as_nanos() as f64 / CHECKS as f64
+}
+
+/// The quickest of many runs of each, all by turns.
+fn quickest(checks: &[&dyn Fn(usize, &[u8]) -> bool], text: &Text, runs: usize) -> Vec<f64> {
+    let mut best = vec![f64::INFINITY; checks.len()];
+    for _ in 0..runs {
+        for (best, check) in best.iter_mut().zip(checks) {
+            *best = best.min(timed(check, text));
+        }
+    }
+    best
+}
+
+fn print_checks(proved: &Library, old: Option<WellFormed>, runs: usize) {
+    let now = proved.well_formed.expect("the linked library has it");
+    let now = |u: usize, s: &[u8]| well_formed(now, u, s);
+    let before = |u: usize, s: &[u8]| old.is_some_and(|old| well_formed(old, u, s));
+    let mut checks: Vec<&dyn Fn(usize, &[u8]) -> bool> = vec![&now, &rust];
+    print!("{:<22} {:>7} {:>7}", "well-formed?", "proved", "Rust");
+    println!(
+        "{}",
+        if old.is_some() {
+            "     old    /Rust     /old"
+        } else {
+            "    /Rust"
+        }
+    );
+    if old.is_some() {
+        checks.push(&before);
+    }
+    for text in texts() {
+        print_row(&text.name, &quickest(&checks, &text, runs));
+    }
+}
+
+fn print_characters(proved: &Library, old: Option<&Library>, runs: usize) {
+    let now = |u: usize, s: &[u8]| characters(proved, u, s) > 0;
+    let before = |u: usize, s: &[u8]| old.is_some_and(|old| characters(old, u, s) > 0);
+    let mut checks: Vec<&dyn Fn(usize, &[u8]) -> bool> = vec![&now];
+    print!("{:<22} {:>7}", "one by one", "proved");
+    println!(
+        "{}",
+        if old.is_some() {
+            "     old     /old"
+        } else {
+            ""
+        }
+    );
+    if old.is_some() {
+        checks.push(&before);
+    }
+    for text in texts() {
+        print_row(&text.name, &quickest(&checks, &text, runs));
+    }
+}
+
+/// The times, and the first one's ratio to each of the others.
+fn print_row(name: &str, times: &[f64]) {
+    print!("{name:<22}");
+    for time in times {
+        print!(" {time:>7.0}");
+    }
+    for other in &times[1..] {
+        print!(" {:>8.2}", times[0] / other);
+    }
+    println!();
+}
+
+pub fn print(proved: &Library, old: Option<&Library>, runs: usize) {
+    println!();
+    println!("Nanoseconds a string of {BYTES} bytes (whole characters), the quickest of {runs} runs of {CHECKS} strings, all by turns.");
+    println!();
+    print_checks(proved, old.and_then(|old| old.well_formed), runs);
+    println!();
+    print_characters(proved, old, runs);
+}
