@@ -3,10 +3,10 @@ use Prim.Native.Nat.{ℕ, _+_, _-_, _*_, _/_, _%_, _<_, _≤_}
 use native.Mathlib.Omega.{arith}
 use mathlib.Core.Path.{_≡_, refl, sym}
 use mathlib.Core.Logic.{_⊎_, inl, inr, ⊎-elim}
-use mathlib.Core.Bool.{Bool, true, false}
+use mathlib.Core.Bool.{true}
 use mathlib.Core.List.{List, [], _∷_, _++_}
 use lib.ListN.{length}
-use Rattle.laws.specs.Rows.{_⇒_⁏_, _=?_, yes, no, lt, ge, lt-of, ge-of, each, and-of, and-is, or-of}
+use Rattle.laws.specs.Rows.{yes, no, lt, ge, lt-of, ge-of, each, and-of, and-is, or-of}
 use Rattle.octets.specs.Be.{be16}
 use Rattle.text.specs.Unicode.{scalar, utf8, utf16, encoded}
 

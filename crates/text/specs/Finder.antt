@@ -1,19 +1,20 @@
 -- The finder: `character` finds exactly the encodings of scalar values. Assumes nothing.
 use Prim.Native.Nat.{ℕ, zero, suc, _+_, _<_, _≤_}
 use native.Mathlib.Omega.{arith}
-use mathlib.Core.Path.{_≡_, refl, sym, ap, _∙_}
+use mathlib.Core.Path.{_≡_, refl, ap, _∙_}
 use mathlib.Core.Bool.{Bool, true, false}
 use mathlib.Core.List.{List, _++_}
 use lib.ListN.{length, drop, getD, length-take, length-drop}
 use lib.Seq.{drop-cons}
 use Rattle.laws.specs.Rows.{_⇒_⁏_, _=?_, yes, no, eq, ne}
+use Rattle.laws.specs.Exactly.{Exactly}
 use Rattle.octets.specs.Be.{u8At}
 use Rattle.text.specs.declared.Row.{Row}
 use Rattle.text.specs.Chart.{chart, within, follows, charted, paired}
 use Rattle.text.specs.Unicode.{scalar, utf8, utf16, encoded, character}
 use Rattle.text.specs.Laws.{saw}
 use Rattle.text.specs.Encoding.{encoded-sized}
-use Rattle.text.specs.Front.{Front}
+use Rattle.text.specs.Front.{Front, exactly}
 use Rattle.text.specs.Eight.{chart-sound, chart-complete}
 use Rattle.text.specs.Sixteen.{paired-sound, paired-complete}
 
@@ -35,6 +36,10 @@ finder-complete U c rest good = go (U =? 0)
         → (b ⇒ charted chart ((b ⇒ utf8 c ⁏ utf16 c) ++ rest) ⁏ paired ((b ⇒ utf8 c ⁏ utf16 c) ++ rest)) ≡ length (b ⇒ utf8 c ⁏ utf16 c)
     go true = chart-complete c rest good
     go false = paired-complete c rest good
+
+-- so it finds n bytes exactly if s begins with n bytes that are the encoding of a scalar value; by `only` nothing else does
+pub finder-exactly : (U : ℕ) (s : List ℕ) (n : ℕ) → Exactly ((0 < n) × (character U s ≡ n)) (Front (encoded U) s n)
+finder-exactly U = exactly (encoded U) (character U) (λ c. encoded-sized U c .0) (finder-sound U) (finder-complete U)
 
 -- what is found lies within the bytes, and is at most four of them
 pub character-within : (U : ℕ) (s : List ℕ) → (character U s ≤ length s) × (character U s ≤ 4)

@@ -7,16 +7,7 @@ use mathlib.Core.List.{List, _∷_}
 use lib.ListN.{length, take, drop, getD, length-drop}
 use lib.Seq.{drop-cons, take-all}
 
--- a condition that a function decided: r is its answer, and which way a branch on `!r` went is known
-pub told-yes : (r b : Bool) → r ≡ b → not r ≡ false → b ≡ true
-told-yes true b p h = sym p
-told-yes false b p h = let z : _≡_ {A = ℕ} 0 1 = cc in absurd (omega arith)
-
-pub told-no : (r b : Bool) → r ≡ b → not r ≡ true → b ≡ true → ⊥
-told-no true b p h k = let z : _≡_ {A = ℕ} 0 1 = cc in omega arith
-told-no false b p h k = let z : _≡_ {A = ℕ} 0 1 = cc in omega arith
-
--- a condition that a function decided of what another one read
+-- a condition f that a function decided of what another one read: t is its answer, and which way a branch on it, or on `!t`, went is known
 pub saw : {A : Type 0} (f : A → Bool) (t : Bool) (a b : A) (v : Bool) → t ≡ f a → a ≡ b → t ≡ v → f b ≡ v
 saw f t a b v p e h = ap f (sym e) ∙ sym p ∙ h
 

@@ -2,7 +2,7 @@
 -- stands in a promise, and none has to be believed. Assumes nothing.
 use Prim.Native.Nat.{ℕ, suc, _+_, _-_, _*_}
 use mathlib.Core.Path.{_≡_, refl}
-use mathlib.Core.Bool.{Bool, true, false}
+use mathlib.Core.Bool.{Bool, true}
 use mathlib.Core.List.{List, [], _∷_}
 use Rattle.laws.specs.Rows.{_⇒_⁏_, _or_, _and_, _<?_, _=?_}
 use Rattle.text.specs.declared.Range.{Range}

@@ -1,12 +1,12 @@
 -- What the chart's words say: a number within a range, and the bytes behind a row's lead. Assumes nothing.
 use Prim.Native.Nat.{ℕ, _<_, _≤_}
 use native.Mathlib.Omega.{arith}
-use mathlib.Core.Path.{_≡_, refl, sym}
+use mathlib.Core.Path.{_≡_, refl, sym, _∙_}
 use mathlib.Core.Logic.{⊎-elim}
-use mathlib.Core.Bool.{Bool, true, false}
+use mathlib.Core.Bool.{Bool, true, false, true≢false}
 use mathlib.Core.List.{List}
 use lib.ListN.{length}
-use Rattle.laws.specs.Rows.{_⇒_⁏_, _or_, _<?_, yes, no, lt, ge, lt-of, ge-of, each, and-of, and-is, or-of}
+use Rattle.laws.specs.Rows.{_or_, _<?_, yes, no, lt, ge, lt-of, ge-of, each, and-of, and-is, or-of}
 use Rattle.octets.specs.Be.{u8At}
 use Rattle.text.specs.declared.Range.{Range}
 use Rattle.text.specs.declared.Row.{Row}
@@ -20,15 +20,15 @@ pub within-of : (r : Range) (b : ℕ) → within r b ≡ true → In r b
 unfolding within
 within-of r b =
     each (λ w. w ≡ true → In r b) _ _ _
-    (λ h e. absurd-no e)
-    (λ h. each (λ w. w ≡ true → In r b) _ _ _ (λ k e. absurd-no e) (λ k e. (ge-of _ _ h, ge-of _ _ k)))
-  where
-    absurd-no : false ≡ true → In r b
-    absurd-no e = let z : _≡_ {A = ℕ} 0 1 = cc in absurd (omega arith)
+    (λ h e. absurd (true≢false (sym e)))
+    (λ h. each (λ w. w ≡ true → In r b) _ _ _ (λ k e. absurd (true≢false (sym e))) (λ k e. (ge-of _ _ h, ge-of _ _ k)))
 
 pub within-is : (r : Range) (b : ℕ) → In r b → within r b ≡ true
 unfolding within
 within-is r b h = sym (no _ _ (ge _ _ (h .0)) (no _ _ (ge _ _ (h .1)) refl))
+
+pub within-out : (r : Range) (b : ℕ) → within r b ≡ false → In r b → ⊥
+within-out r b h i = true≢false (sym (within-is r b i) ∙ h)
 
 pub within-not : (r : Range) (b : ℕ) → r .1 < b → within r b ≡ false
 unfolding within
@@ -45,6 +45,10 @@ pub record Follows (r : Row) (s : List ℕ) : Type 0 where
   pub third : 3 ≤ r .2 → In (0x80 to 0xBF) (u8At s 2)
   pub fourth : 4 ≤ r .2 → In (0x80 to 0xBF) (u8At s 3)
 
+-- a row of n bytes has no k-th
+pub none : {P : Type 0} (n k : ℕ) → n < k → k ≤ n → P
+none n k h l = absurd (omega arith)
+
 -- a byte is asked for only where the row has it
 asked : (r : Range) (n k b : ℕ) → (n <? k or within r b) ≡ true → k ≤ n → In r b
 asked r n k b h l = ⊎-elim (λ t. let q = lt-of n k t in absurd (omega arith)) (λ t. within-of r b t) (or-of _ _ h)
@@ -56,7 +60,7 @@ pub follows-of : (r : Row) (s : List ℕ) → follows r s ≡ true → Follows r
 unfolding follows
 follows-of r s =
     each (λ w. w ≡ true → Follows r s) _ _ _
-    (λ h e. let z : _≡_ {A = ℕ} 0 1 = cc in absurd (omega arith))
+    (λ h e. absurd (true≢false (sym e)))
     (λ h e.
     let t = and-of _ _ e in
     let u = and-of _ _ (t .1) in

@@ -6,7 +6,7 @@ use mathlib.Core.Path.{_≡_, refl, sym, ap, _∙_}
 use mathlib.Core.Logic.{inl}
 use mathlib.Core.Bool.{Bool, true, false}
 use mathlib.Core.List.{List, [], _∷_, _++_}
-use lib.ListN.{length, take, drop, length-take, length-drop, take-append-drop}
+use lib.ListN.{length, drop, length-take, length-drop, take-append-drop}
 use lib.Seq.{drop-cons, drop-drop, drop-at}
 use Rattle.laws.specs.Rows.{_⇒_⁏_, _and_, _<?_, yes, no, lt, ge, lt-of, ge-of, eq, and-of, and-is}
 use Rattle.laws.specs.Region.{part}

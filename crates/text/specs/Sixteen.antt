@@ -1,12 +1,12 @@
 -- UTF-16: the rule of units and the encodings of the scalar values are one rule, for every list. Assumes nothing.
-use Prim.Native.Nat.{ℕ, suc, _+_, _-_, _*_, _/_, _%_, _<_, _≤_}
+use Prim.Native.Nat.{ℕ, _+_, _-_, _*_, _/_, _%_, _<_, _≤_}
 use native.Mathlib.Omega.{arith}
-use mathlib.Core.Path.{_≡_, refl, sym, _∙_}
+use mathlib.Core.Path.{_≡_, refl, sym}
 use mathlib.Core.Logic.{_⊎_, inl, inr, ⊎-elim}
 use mathlib.Core.Bool.{true, false}
-use mathlib.Core.List.{List, [], _∷_, _++_}
-use lib.ListN.{length, take}
-use Rattle.laws.specs.Rows.{_⇒_⁏_, _or_, yes, no, lt, ge, lt-of, each, and-of, and-is, or-of, or-none}
+use mathlib.Core.List.{List, [], _++_}
+use lib.ListN.{length}
+use Rattle.laws.specs.Rows.{_or_, yes, no, lt, ge, lt-of, each, and-of, and-is, or-of}
 use Rattle.laws.specs.Exactly.{Exactly}
 use Rattle.octets.specs.Be.{u8At, u16At, be16}
 use Rattle.text.specs.Chart.{_to_, within, unitAt, paired}
@@ -53,7 +53,8 @@ lone s h =
     let e : utf16 v ≡ be16 v = sym (yes _ _ (lt _ _ (omega (arith, u .high, u .low))) refl) in
     record {
       value = v;
-      good = scalar-is v (⊎-elim (λ l. inl (omega (arith, l, u .value))) (λ l. inr (omega (arith, l, u .value), omega (arith, l, u .value))) h);
+      good = scalar-is v
+          (⊎-elim (λ l. inl (omega (arith, l, u .value))) (λ l. inr (omega (arith, l, u .value), omega (arith, l, u .value))) h);
       size = rw e refl;
       front = rw (e, b .0, b .1) (sym (took 0 s 0 1 _ (omega (arith, u .there)) (took 0 s 1 0 [] (u .there) refl)));
     }
@@ -107,7 +108,8 @@ pair-found : (s : List ℕ) → In (0xD800 to 0xDBFF) (unitAt s 0) → In (0xDC0
 unfolding paired
 pair-found s h k =
     let n : (within (0x0000 to 0xD7FF) (unitAt s 0) or within (0xE000 to 0xFFFF) (unitAt s 0)) ≡ false =
-    sym (no _ _ (within-not (0x0000 to 0xD7FF) (unitAt s 0) (omega (arith, h))) (sym (within-below (0xE000 to 0xFFFF) (unitAt s 0) (omega (arith, h))))) in
+    sym (no _ _ (within-not (0x0000 to 0xD7FF) (unitAt s 0) (omega (arith, h)))
+    (sym (within-below (0xE000 to 0xFFFF) (unitAt s 0) (omega (arith, h))))) in
     sym (no _ _ n (yes _ _ (and-is _ _ (within-is _ _ h) (within-is _ _ k)) refl))
 
 pub paired-complete : (c : ℕ) (rest : List ℕ) → scalar c ≡ true → paired (utf16 c ++ rest) ≡ length (utf16 c)
@@ -115,7 +117,8 @@ paired-complete c rest good =
     utf16-forms (λ x. paired (x ++ rest) ≡ length x) c
     (λ h.
     let e : unitAt (be16 c ++ rest) 0 ≡ c = unit-is (be16 c ++ rest) 0 c (omega arith) (omega arith) (two-bytes c h) in
-    lone-found (be16 c ++ rest) (rw e (⊎-elim (λ l. inl (omega arith, omega arith)) (λ g. inr (omega (arith, g), omega arith)) (scalar-of c good))))
+    lone-found (be16 c ++ rest)
+    (rw e (⊎-elim (λ l. inl (omega arith, omega arith)) (λ g. inr (omega (arith, g), omega arith)) (scalar-of c good))))
     (λ h.
     let top = scalar-top c good in
     let a = 0xD800 + (c - 0x10000) / 0x400 in

@@ -1,7 +1,7 @@
 -- Characters and strings, as the Unicode Standard has them: the scalar values, their two encodings, and what a place in a list of
 -- bytes begins with. U is a unit's bit: 0 is UTF-8, anything else UTF-16 big-endian. All of it is total. Assumes nothing.
 -- Three definitions have to be believed, `scalar`, `utf8` and `utf16`: all else here is said by them, or proved to say the same.
-use Prim.Native.Nat.{ℕ, zero, suc, _+_, _-_, _*_, _/_, _%_}
+use Prim.Native.Nat.{ℕ, zero, suc, _+_, _-_, _/_, _%_}
 use mathlib.Core.Path.{_≡_}
 use mathlib.Core.Bool.{Bool, true, false}
 use mathlib.Core.List.{List, [], _∷_, _++_}

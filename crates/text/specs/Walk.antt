@@ -31,7 +31,8 @@ unfolding wellFormed wellWithin
 well-turn U s =
     let rest = drop (character U s) s in
     well-fuel (length s) (suc (length s)) U s (omega arith) (omega arith)
-    ∙ below _ _ _ _ (λ a. below _ _ _ _ (λ b. well-fuel (length s) (length rest) U rest (behind U s (length s) (omega arith) b) (omega arith)))
+    ∙ below _ _ _ _ (λ a. below _ _ _ _ (λ b.
+    well-fuel (length s) (length rest) U rest (behind U s (length s) (omega arith) b) (omega arith)))
 
 -- a turn of the loop at i, its early end, and its end
 module _ (U : ℕ) (s : List ℕ) (i k : ℕ) (found : k ≡ character U (drop i s)) where

@@ -7,21 +7,23 @@ use Rattle.chart.proofs.eight.Tie as tie
 
 returns : tie.Need-returns
 returns c =
-    let b = c .before .before .before .before .before in
+    let t = c .before .before in
+    let b = t .before .before .before in
     let e = b .before .chart .ensures in
     let lead = b .byte .ensures .0 in
     by-chart _ _
-    (told 0 _ _ _ _ _ _ (omega arith) e (c .before .before .before .leads .ensures) lead (c .before .before .if1 .taken) (c .size .ensures))
+    (told 0 _ _ _ _ _ _ (omega arith) e (t .before .leads .ensures) lead (t .if1 .taken) (c .size .ensures))
 
 returns-2 : tie.Need-returns-2
 returns-2 c =
-    let e1 = c .before .before .before .before .before in
+    let t = c .before .before in
+    let e1 = t .before .before .before in
     let b = e1 .before .before .before in
     let e = b .before .chart .ensures in
     let lead = b .byte .ensures .0 in
     by-chart _ _
     (passed 0 _ _ _ _ _ _ (omega arith) e (e1 .before .leads .ensures) lead (e1 .if1 .left)
-    (told 1 _ _ _ _ _ _ (omega arith) e (c .before .before .before .leads2 .ensures) lead (c .before .before .if2 .taken) (c .size2 .ensures)))
+    (told 1 _ _ _ _ _ _ (omega arith) e (t .before .leads2 .ensures) lead (t .if2 .taken) (c .size2 .ensures)))
 
 returns-3 : tie.Need-returns-3
 returns-3 c =

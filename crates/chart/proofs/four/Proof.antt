@@ -7,30 +7,33 @@ use Rattle.chart.proofs.four.Tie as tie
 
 returns : tie.Need-returns
 returns c =
-    let b = c .before .before .before .before .before in
+    let t = c .before .before in
+    let b = t .before .before .before in
     let e = b .before .chart .ensures in
     let lead = b .byte .ensures .0 in
-    told 6 _ _ _ _ _ _ (omega arith) e (c .before .before .before .leads .ensures) lead (c .before .before .if1 .taken) (c .size .ensures)
+    told 6 _ _ _ _ _ _ (omega arith) e (t .before .leads .ensures) lead (t .if1 .taken) (c .size .ensures)
 
 returns-2 : tie.Need-returns-2
 returns-2 c =
-    let e1 = c .before .before .before .before .before in
+    let t = c .before .before in
+    let e1 = t .before .before .before in
     let b = e1 .before .before .before in
     let e = b .before .chart .ensures in
     let lead = b .byte .ensures .0 in
     passed 6 _ _ _ _ _ _ (omega arith) e (e1 .before .leads .ensures) lead (e1 .if1 .left)
-    (told 7 _ _ _ _ _ _ (omega arith) e (c .before .before .before .leads2 .ensures) lead (c .before .before .if2 .taken) (c .size2 .ensures))
+    (told 7 _ _ _ _ _ _ (omega arith) e (t .before .leads2 .ensures) lead (t .if2 .taken) (c .size2 .ensures))
 
 returns-3 : tie.Need-returns-3
 returns-3 c =
-    let e2 = c .before .before .before .before .before in
+    let t = c .before .before in
+    let e2 = t .before .before .before in
     let e1 = e2 .before .before .before in
     let b = e1 .before .before .before in
     let e = b .before .chart .ensures in
     let lead = b .byte .ensures .0 in
     passed 6 _ _ _ _ _ _ (omega arith) e (e1 .before .leads .ensures) lead (e1 .if1 .left)
     (passed 7 _ _ _ _ _ _ (omega arith) e (e2 .before .leads2 .ensures) lead (e2 .if2 .left)
-    (told 8 _ _ _ _ _ _ (omega arith) e (c .before .before .before .leads3 .ensures) lead (c .before .before .if3 .taken) (c .size3 .ensures)))
+    (told 8 _ _ _ _ _ _ (omega arith) e (t .before .leads3 .ensures) lead (t .if3 .taken) (c .size3 .ensures)))
 
 returns-4 : tie.Need-returns-4
 returns-4 c =

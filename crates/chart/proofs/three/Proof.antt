@@ -7,34 +7,38 @@ use Rattle.chart.proofs.three.Tie as tie
 
 returns : tie.Need-returns
 returns c =
-    let b = c .before .before .before .before .before in
+    let t = c .before .before in
+    let b = t .before .before .before in
     let e = b .before .chart .ensures in
     let lead = b .byte .ensures .0 in
-    told 2 _ _ _ _ _ _ (omega arith) e (c .before .before .before .leads .ensures) lead (c .before .before .if1 .taken) (c .size .ensures)
+    told 2 _ _ _ _ _ _ (omega arith) e (t .before .leads .ensures) lead (t .if1 .taken) (c .size .ensures)
 
 returns-2 : tie.Need-returns-2
 returns-2 c =
-    let e1 = c .before .before .before .before .before in
+    let t = c .before .before in
+    let e1 = t .before .before .before in
     let b = e1 .before .before .before in
     let e = b .before .chart .ensures in
     let lead = b .byte .ensures .0 in
     passed 2 _ _ _ _ _ _ (omega arith) e (e1 .before .leads .ensures) lead (e1 .if1 .left)
-    (told 3 _ _ _ _ _ _ (omega arith) e (c .before .before .before .leads2 .ensures) lead (c .before .before .if2 .taken) (c .size2 .ensures))
+    (told 3 _ _ _ _ _ _ (omega arith) e (t .before .leads2 .ensures) lead (t .if2 .taken) (c .size2 .ensures))
 
 returns-3 : tie.Need-returns-3
 returns-3 c =
-    let e2 = c .before .before .before .before .before in
+    let t = c .before .before in
+    let e2 = t .before .before .before in
     let e1 = e2 .before .before .before in
     let b = e1 .before .before .before in
     let e = b .before .chart .ensures in
     let lead = b .byte .ensures .0 in
     passed 2 _ _ _ _ _ _ (omega arith) e (e1 .before .leads .ensures) lead (e1 .if1 .left)
     (passed 3 _ _ _ _ _ _ (omega arith) e (e2 .before .leads2 .ensures) lead (e2 .if2 .left)
-    (told 4 _ _ _ _ _ _ (omega arith) e (c .before .before .before .leads3 .ensures) lead (c .before .before .if3 .taken) (c .size3 .ensures)))
+    (told 4 _ _ _ _ _ _ (omega arith) e (t .before .leads3 .ensures) lead (t .if3 .taken) (c .size3 .ensures)))
 
 returns-4 : tie.Need-returns-4
 returns-4 c =
-    let e3 = c .before .before .before .before .before in
+    let t = c .before .before in
+    let e3 = t .before .before .before in
     let e2 = e3 .before .before .before in
     let e1 = e2 .before .before .before in
     let b = e1 .before .before .before in
@@ -43,7 +47,7 @@ returns-4 c =
     passed 2 _ _ _ _ _ _ (omega arith) e (e1 .before .leads .ensures) lead (e1 .if1 .left)
     (passed 3 _ _ _ _ _ _ (omega arith) e (e2 .before .leads2 .ensures) lead (e2 .if2 .left)
     (passed 4 _ _ _ _ _ _ (omega arith) e (e3 .before .leads3 .ensures) lead (e3 .if3 .left)
-    (told 5 _ _ _ _ _ _ (omega arith) e (c .before .before .before .leads4 .ensures) lead (c .before .before .if4 .taken) (c .size4 .ensures))))
+    (told 5 _ _ _ _ _ _ (omega arith) e (t .before .leads4 .ensures) lead (t .if4 .taken) (c .size4 .ensures))))
 
 returns-5 : tie.Need-returns-5
 returns-5 c =
