@@ -21,6 +21,7 @@ const CHART: [Row; 9] = [
     Row(Range(0xF4, 0xF4), Range(0x80, 0x8F), 4),
 ];
 
+// The table is the chart, row by row.
 fn chart() -> [Row; 9]
     ensures { λ r. ⌜ r ≡ chart ⌝ }
 {

@@ -13,7 +13,7 @@ pub fn well_formed(u: usize, s: &[u8]) -> bool
     ensures { λ r. ⌜ r ≡ wellFormed u (now (s .entry)) ⌝ }
 {
     if u == 0 {
-        return eight(s);
+        return by_blocks(s);
     }
     if walked(u, s, 0, s.len()) < s.len() {
         return false;
@@ -22,7 +22,7 @@ pub fn well_formed(u: usize, s: &[u8]) -> bool
 }
 
 // UTF-8, block by block.
-fn eight(s: &[u8]) -> bool
+fn by_blocks(s: &[u8]) -> bool
     ensures { λ r. ⌜ r ≡ wellFormed 0 (now (s .entry)) ⌝ }
 {
     let mut i = 0;
@@ -38,7 +38,7 @@ fn eight(s: &[u8]) -> bool
 
 // The place behind a block of ASCII, or behind the characters that begin in the block; `at` where one of them is not well-formed.
 fn passed(s: &[u8], at: usize) -> usize
-    ensures { λ e. ⌜ (at ≤ length (now (s .entry)) → Passed 0 (now (s .entry)) at (blockEnd 128 (now (s .entry)) at) e) ⌝ }
+    ensures { λ e. ⌜ (at ≤ length (now (s .entry)) → Passed 0 (now (s .entry)) at (blockEnd (now (s .entry)) at) e) ⌝ }
 {
     let block = octets::cut(s, at, BLOCK);
     let to = at + block.len();

@@ -16,7 +16,7 @@ use Rattle.text.specs.Laws.{took}
 use Rattle.text.specs.Encoding.{scalar-of, scalar-is, scalar-top, utf8-some}
 use Rattle.text.specs.Front.{Front, exactly}
 use Rattle.text.specs.Ranges.{In, within-of, within-is, within-not, Follows, none, follows-of, follows-is}
-use Rattle.text.specs.Numbers.{more, number, first, last, ranged, fair, behind, climbs, chart-climbs}
+use Rattle.text.specs.Numbers.{more, number, first, last, ranged, fair, next, climbs, chart-climbs}
 
 -- a row says: what fits it is the encoding of a scalar value; and the encodings of its numbers fit it
 pub record Rule (r : Row) : Type 0 where
@@ -311,7 +311,7 @@ record Climbs (lead from : ℕ) (r : Row) (rs : List Row) : Type 0 where
   pub here : Rule r
   pub starts : first r ≡ from
   pub leads : In (lead to r .0 .1) (r .0 .0)
-  pub on : climbs (suc (r .0 .1)) (behind (last r)) rs ≡ true
+  pub on : climbs (suc (r .0 .1)) (next (last r)) rs ≡ true
 
 climbs-of : (lead from : ℕ) (r : Row) (rs : List Row) → climbs lead from (r ∷ rs) ≡ true → Climbs lead from r rs
 unfolding climbs
@@ -330,11 +330,11 @@ rows-sound (r ∷ rs) lead from s h =
     (λ l. each (λ n. 0 < n → Front utf8 s n) _ _ _
     (λ f k. c .here .sound s (within-of (r .0) (u8At s 0) l) (follows-of r s f))
     (λ f k. absurd (omega arith)))
-    (λ l. rows-sound rs (suc (r .0 .1)) (behind (last r)) s (c .on))
+    (λ l. rows-sound rs (suc (r .0 .1)) (next (last r)) s (c .on))
 
--- no scalar value lies between c and the one behind it
-next-scalar : (c x : ℕ) → scalar x ≡ true → c < x → behind c ≤ x
-unfolding behind
+-- no scalar value lies between c and the next one
+next-scalar : (c x : ℕ) → scalar x ≡ true → c < x → next c ≤ x
+unfolding next
 next-scalar c x good h =
     each (λ n. n ≤ x) _ _ _
     (λ e. let q = eq-of _ _ e in ⊎-elim (λ low. omega arith) (λ high. omega arith) (scalar-of x good))
@@ -346,7 +346,7 @@ unfolding charted climbs
 rows-complete [] lead from c rest h good k = absurd (omega (arith, eq-of _ _ h, scalar-top c good))
 rows-complete (r ∷ rs) lead from c rest h good k =
     go (last r <? c) refl
-    (λ l. rows-complete rs (suc (r .0 .1)) (behind (last r)) c rest (g .on) good (next-scalar (last r) c good l))
+    (λ l. rows-complete rs (suc (r .0 .1)) (next (last r)) c rest (g .on) good (next-scalar (last r) c good l))
   where
     g : Climbs lead from r rs
     g = climbs-of lead from r rs h

@@ -74,17 +74,17 @@ module _ (k : ℕ) (s : List ℕ) (n : ℕ) (rows : List Row) (d : Row) (t : Boo
   asked-of : (v : Bool) → t ≡ v → within (getD chart k d .0) (u8At s 0) ≡ v
   asked-of v g = saw (within (getD chart k d .0)) t b (u8At s 0) v (asked ∙ ap (λ (l : List Row). within (getD l k d .0) b) e) lead g
 
-  pub passed : t ≡ false → n ≡ charted (drop (suc k) chart) s → n ≡ charted (drop k chart) s
+  pub row-passed : t ≡ false → n ≡ charted (drop (suc k) chart) s → n ≡ charted (drop k chart) s
   unfolding charted chart
-  passed g on = rw (drop-cons chart k d h) (no _ _ (asked-of false g) on)
+  row-passed g on = rw (drop-cons chart k d h) (no _ _ (asked-of false g) on)
 
-  pub told : t ≡ true → n ≡ (follows (getD rows k d) s ⇒ getD rows k d .2 ⁏ 0) → n ≡ charted (drop k chart) s
+  pub row-told : t ≡ true → n ≡ (follows (getD rows k d) s ⇒ getD rows k d .2 ⁏ 0) → n ≡ charted (drop k chart) s
   unfolding charted chart
-  told g on = rw (drop-cons chart k d h) (yes _ _ (asked-of true g) (rw e at on))
+  row-told g on = rw (drop-cons chart k d h) (yes _ _ (asked-of true g) (rw e at on))
 
-pub untold : (s : List ℕ) → 0 ≡ charted (drop 9 chart) s
+pub rows-end : (s : List ℕ) → 0 ≡ charted (drop 9 chart) s
 unfolding charted chart
-untold s = refl
+rows-end s = refl
 
 -- any bit but 0 is 1
 pub one-bit : (U : ℕ) (s : List ℕ) → (U ≡ 0 → ⊥) → character 1 s ≡ character U s

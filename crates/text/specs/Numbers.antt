@@ -48,9 +48,9 @@ fair r =
     ⁏ r .2 =? 3 ⇒ ranged (0xE0 to 0xEF) r and 0x7FF <? first r and (last r <? 0xD800 or 0xDFFF <? first r)
     ⁏ r .2 =? 4 and ranged (0xF0 to 0xF7) r and 0xFFFF <? first r and last r <? 0x110000
 
--- the scalar value behind c
-unfoldable pub behind : ℕ → ℕ
-behind c = c =? 0xD7FF ⇒ 0xE000 ⁏ suc c
+-- the scalar value that comes next
+unfoldable pub next : ℕ → ℕ
+next c = c =? 0xD7FF ⇒ 0xE000 ⁏ suc c
 
 -- row behind row, the lead bytes rise from `lead` on and the numbers are the scalar values from `from` on, all of them
 unfoldable pub climbs : (lead from : ℕ) → List Row → Bool
@@ -59,11 +59,11 @@ climbs lead from (r ∷ rs) =
     fair r
     and first r =? from
     and within (lead to r .0 .1) (r .0 .0)
-    and climbs (suc (r .0 .1)) (behind (last r)) rs
+    and climbs (suc (r .0 .1)) (next (last r)) rs
 
 -- the chart passes
 pub chart-climbs : climbs 0 0 chart ≡ true
-unfolding climbs chart fair ranged first last number more behind within _⇒_⁏_ _<?_ _=?_
+unfolding climbs chart fair ranged first last number more next within _⇒_⁏_ _<?_ _=?_
 chart-climbs = refl
 
 -- ---- the numbers of the rows, as the chart itself has them in its first column

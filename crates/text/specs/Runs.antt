@@ -82,15 +82,18 @@ pub record Passed (U : ℕ) (s : List ℕ) (at to e : ℕ) : Type 0 where
   pub same : to ≤ e → wellFormed U (drop at s) ≡ wellFormed U (drop e s)
   pub not : e < to → (e ≡ at) × (wellFormed U (drop at s) ≡ false)
 
--- the end of a block of k bytes from `at` on
-unfoldable pub blockEnd : (k : ℕ) → List ℕ → (at : ℕ) → ℕ
-blockEnd k s at = at + min k (length s - at)
+-- how many bytes are looked at together, and where those from `at` on end
+abbrev pub blockMost : ℕ
+blockMost = 128
 
-module _ (s b : List ℕ) (at k : ℕ) (e : b ≡ part at k s) where
-  block-length : length b ≡ min k (length s - at)
-  block-length = ap length e ∙ length-take k (drop at s) ∙ ap (min k) (length-drop at s)
+unfoldable pub blockEnd : List ℕ → (at : ℕ) → ℕ
+blockEnd s at = at + min blockMost (length s - at)
 
-  pub block-end : blockEnd k s at ≡ at + length b
+module _ (s b : List ℕ) (at : ℕ) (e : b ≡ part at blockMost s) where
+  block-length : length b ≡ min blockMost (length s - at)
+  block-length = ap length e ∙ length-take blockMost (drop at s) ∙ ap (min blockMost) (length-drop at s)
+
+  pub block-end : blockEnd s at ≡ at + length b
   unfolding blockEnd
   block-end = ap (λ (n : ℕ). at + n) (sym block-length)
 
@@ -102,10 +105,10 @@ module _ (s b : List ℕ) (at k : ℕ) (e : b ≡ part at k s) where
   ascii-passed h all =
       let x = drop at s in
       let t = ascii-encodings b all in
-      let w : b ++ drop k x ≡ x = rw e (take-append-drop k x) in
-      let v : wellFormed 0 (b ++ drop k x) ≡ wellFormed 0 (drop k x) = rw (t .0) at (well-past 0 b (drop k x) (t .1)) in
-      let d : drop k x ≡ drop (at + length b) s =
-      sym (drop-at b (drop k x) (length b) refl) ∙ ap (drop (length b)) w ∙ drop-drop (length b) at s in
+      let rest = drop blockMost x in
+      let w : b ++ rest ≡ x = rw e (take-append-drop blockMost x) in
+      let v : wellFormed 0 (b ++ rest) ≡ wellFormed 0 rest = rw (t .0) at (well-past 0 b rest (t .1)) in
+      let d : rest ≡ drop (at + length b) s = sym (drop-at b rest (length b) refl) ∙ ap (drop (length b)) w ∙ drop-drop (length b) at s in
       record {
         there = block-within .0 h;
         same = λ z. ap (wellFormed 0) (sym w) ∙ v ∙ ap (wellFormed 0) d;
@@ -113,16 +116,16 @@ module _ (s b : List ℕ) (at k : ℕ) (e : b ≡ part at k s) where
       }
 
 -- so the place that is reached tells
-module _ (k : ℕ) (s : List ℕ) (at e : ℕ) (some : 0 < k) (h : at < length s) (p : Passed 0 s at (blockEnd k s at) e) where
+module _ (s : List ℕ) (at e : ℕ) (h : at < length s) (p : Passed 0 s at (blockEnd s at) e) where
   pub passed-not : e ≡ at → wellFormed 0 (drop at s) ≡ false
   unfolding blockEnd
   passed-not z = p .not (omega arith) .1
 
   pub passed-on : (e ≡ at → ⊥) → (at < e) × (wellFormed 0 (drop at s) ≡ wellFormed 0 (drop e s))
   unfolding blockEnd
-  passed-on z = go (e <? blockEnd k s at) refl
+  passed-on z = go (e <? blockEnd s at) refl
     where
-      go : (b : Bool) → (e <? blockEnd k s at) ≡ b → (at < e) × (wellFormed 0 (drop at s) ≡ wellFormed 0 (drop e s))
+      go : (b : Bool) → (e <? blockEnd s at) ≡ b → (at < e) × (wellFormed 0 (drop at s) ≡ wellFormed 0 (drop e s))
       go true l = absurd (z (p .not (lt-of _ _ l) .0))
       go false l = let m = ge-of _ _ l in (omega arith, p .same m)
 

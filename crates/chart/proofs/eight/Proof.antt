@@ -1,7 +1,7 @@
 -- `chart::eight` meets its contract: each return stands at the row that the lead byte tells. Assumes nothing.
 use native.Mathlib.Omega.{arith}
 use borrow.Author.Needs.{needs}
-use Rattle.text.specs.Finder.{by-chart, passed, told}
+use Rattle.text.specs.Finder.{by-chart, row-passed, row-told}
 use Rattle.chart.proofs.eight.Statement.{statement}
 use Rattle.chart.proofs.eight.Tie as tie
 
@@ -12,7 +12,7 @@ returns c =
     let e = b .before .chart .ensures in
     let lead = b .byte .ensures .0 in
     by-chart _ _
-    (told 0 _ _ _ _ _ _ (omega arith) e (t .before .leads .ensures) lead (t .if1 .taken) (c .size .ensures))
+    (row-told 0 _ _ _ _ _ _ (omega arith) e (t .before .leads .ensures) lead (t .if1 .taken) (c .size .ensures))
 
 returns-2 : tie.Need-returns-2
 returns-2 c =
@@ -22,8 +22,8 @@ returns-2 c =
     let e = b .before .chart .ensures in
     let lead = b .byte .ensures .0 in
     by-chart _ _
-    (passed 0 _ _ _ _ _ _ (omega arith) e (e1 .before .leads .ensures) lead (e1 .if1 .left)
-    (told 1 _ _ _ _ _ _ (omega arith) e (t .before .leads2 .ensures) lead (t .if2 .taken) (c .size2 .ensures)))
+    (row-passed 0 _ _ _ _ _ _ (omega arith) e (e1 .before .leads .ensures) lead (e1 .if1 .left)
+    (row-told 1 _ _ _ _ _ _ (omega arith) e (t .before .leads2 .ensures) lead (t .if2 .taken) (c .size2 .ensures)))
 
 returns-3 : tie.Need-returns-3
 returns-3 c =
@@ -33,8 +33,8 @@ returns-3 c =
     let e = b .before .chart .ensures in
     let lead = b .byte .ensures .0 in
     by-chart _ _
-    (passed 0 _ _ _ _ _ _ (omega arith) e (e1 .before .leads .ensures) lead (e1 .if1 .left)
-    (passed 1 _ _ _ _ _ _ (omega arith) e (e2 .before .leads2 .ensures) lead (e2 .if2 .left) (c .three .ensures)))
+    (row-passed 0 _ _ _ _ _ _ (omega arith) e (e1 .before .leads .ensures) lead (e1 .if1 .left)
+    (row-passed 1 _ _ _ _ _ _ (omega arith) e (e2 .before .leads2 .ensures) lead (e2 .if2 .left) (c .three .ensures)))
 
 pub eight-spec : {M : Type 1} → statement M
 eight-spec =

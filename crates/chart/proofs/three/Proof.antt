@@ -1,7 +1,7 @@
 -- `chart::three` meets its contract: each return stands at the row that the lead byte tells. Assumes nothing.
 use native.Mathlib.Omega.{arith}
 use borrow.Author.Needs.{needs}
-use Rattle.text.specs.Finder.{passed, told}
+use Rattle.text.specs.Finder.{row-passed, row-told}
 use Rattle.chart.proofs.three.Statement.{statement}
 use Rattle.chart.proofs.three.Tie as tie
 
@@ -11,7 +11,7 @@ returns c =
     let b = t .before .before .before in
     let e = b .before .chart .ensures in
     let lead = b .byte .ensures .0 in
-    told 2 _ _ _ _ _ _ (omega arith) e (t .before .leads .ensures) lead (t .if1 .taken) (c .size .ensures)
+    row-told 2 _ _ _ _ _ _ (omega arith) e (t .before .leads .ensures) lead (t .if1 .taken) (c .size .ensures)
 
 returns-2 : tie.Need-returns-2
 returns-2 c =
@@ -20,8 +20,8 @@ returns-2 c =
     let b = e1 .before .before .before in
     let e = b .before .chart .ensures in
     let lead = b .byte .ensures .0 in
-    passed 2 _ _ _ _ _ _ (omega arith) e (e1 .before .leads .ensures) lead (e1 .if1 .left)
-    (told 3 _ _ _ _ _ _ (omega arith) e (t .before .leads2 .ensures) lead (t .if2 .taken) (c .size2 .ensures))
+    row-passed 2 _ _ _ _ _ _ (omega arith) e (e1 .before .leads .ensures) lead (e1 .if1 .left)
+    (row-told 3 _ _ _ _ _ _ (omega arith) e (t .before .leads2 .ensures) lead (t .if2 .taken) (c .size2 .ensures))
 
 returns-3 : tie.Need-returns-3
 returns-3 c =
@@ -31,9 +31,9 @@ returns-3 c =
     let b = e1 .before .before .before in
     let e = b .before .chart .ensures in
     let lead = b .byte .ensures .0 in
-    passed 2 _ _ _ _ _ _ (omega arith) e (e1 .before .leads .ensures) lead (e1 .if1 .left)
-    (passed 3 _ _ _ _ _ _ (omega arith) e (e2 .before .leads2 .ensures) lead (e2 .if2 .left)
-    (told 4 _ _ _ _ _ _ (omega arith) e (t .before .leads3 .ensures) lead (t .if3 .taken) (c .size3 .ensures)))
+    row-passed 2 _ _ _ _ _ _ (omega arith) e (e1 .before .leads .ensures) lead (e1 .if1 .left)
+    (row-passed 3 _ _ _ _ _ _ (omega arith) e (e2 .before .leads2 .ensures) lead (e2 .if2 .left)
+    (row-told 4 _ _ _ _ _ _ (omega arith) e (t .before .leads3 .ensures) lead (t .if3 .taken) (c .size3 .ensures)))
 
 returns-4 : tie.Need-returns-4
 returns-4 c =
@@ -44,10 +44,10 @@ returns-4 c =
     let b = e1 .before .before .before in
     let e = b .before .chart .ensures in
     let lead = b .byte .ensures .0 in
-    passed 2 _ _ _ _ _ _ (omega arith) e (e1 .before .leads .ensures) lead (e1 .if1 .left)
-    (passed 3 _ _ _ _ _ _ (omega arith) e (e2 .before .leads2 .ensures) lead (e2 .if2 .left)
-    (passed 4 _ _ _ _ _ _ (omega arith) e (e3 .before .leads3 .ensures) lead (e3 .if3 .left)
-    (told 5 _ _ _ _ _ _ (omega arith) e (t .before .leads4 .ensures) lead (t .if4 .taken) (c .size4 .ensures))))
+    row-passed 2 _ _ _ _ _ _ (omega arith) e (e1 .before .leads .ensures) lead (e1 .if1 .left)
+    (row-passed 3 _ _ _ _ _ _ (omega arith) e (e2 .before .leads2 .ensures) lead (e2 .if2 .left)
+    (row-passed 4 _ _ _ _ _ _ (omega arith) e (e3 .before .leads3 .ensures) lead (e3 .if3 .left)
+    (row-told 5 _ _ _ _ _ _ (omega arith) e (t .before .leads4 .ensures) lead (t .if4 .taken) (c .size4 .ensures))))
 
 returns-5 : tie.Need-returns-5
 returns-5 c =
@@ -58,10 +58,10 @@ returns-5 c =
     let b = e1 .before .before .before in
     let e = b .before .chart .ensures in
     let lead = b .byte .ensures .0 in
-    passed 2 _ _ _ _ _ _ (omega arith) e (e1 .before .leads .ensures) lead (e1 .if1 .left)
-    (passed 3 _ _ _ _ _ _ (omega arith) e (e2 .before .leads2 .ensures) lead (e2 .if2 .left)
-    (passed 4 _ _ _ _ _ _ (omega arith) e (e3 .before .leads3 .ensures) lead (e3 .if3 .left)
-    (passed 5 _ _ _ _ _ _ (omega arith) e (e4 .before .leads4 .ensures) lead (e4 .if4 .left) (c .four .ensures))))
+    row-passed 2 _ _ _ _ _ _ (omega arith) e (e1 .before .leads .ensures) lead (e1 .if1 .left)
+    (row-passed 3 _ _ _ _ _ _ (omega arith) e (e2 .before .leads2 .ensures) lead (e2 .if2 .left)
+    (row-passed 4 _ _ _ _ _ _ (omega arith) e (e3 .before .leads3 .ensures) lead (e3 .if3 .left)
+    (row-passed 5 _ _ _ _ _ _ (omega arith) e (e4 .before .leads4 .ensures) lead (e4 .if4 .left) (c .four .ensures))))
 
 pub three-spec : {M : Type 1} → statement M
 three-spec =

@@ -12,7 +12,7 @@ use Rattle.strings.proofs.well_formed.Tie as tie
 returns : tie.Need-returns
 returns c =
     let s = now (c .before .before .before .args .s) in
-    c .eight .ensures ∙ ap (λ (u : ℕ). wellFormed u s) (sym (c .before .if1 .taken))
+    c .by-blocks .ensures ∙ ap (λ (u : ℕ). wellFormed u s) (sym (c .before .if1 .taken))
 
 returns-2 : tie.Need-returns-2
 returns-2 c =

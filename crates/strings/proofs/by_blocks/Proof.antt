@@ -1,4 +1,4 @@
--- `strings::eight` meets its contract. The invariant: to look at what is left is to look at all. Assumes nothing.
+-- `strings::by_blocks` meets its contract. The invariant: to look at what is left is to look at all. Assumes nothing.
 use Prim.Native.Nat.{_≤_, _-_}
 use native.Mathlib.Omega.{arith}
 use mathlib.Core.Path.{_≡_, refl, sym, _∙_}
@@ -8,8 +8,8 @@ use lib.ListN.{length, drop}
 use Rattle.text.specs.Unicode.{wellFormed}
 use Rattle.text.specs.Walk.{well-end}
 use Rattle.text.specs.Runs.{passed-on, passed-not}
-use Rattle.strings.proofs.eight.Statement.{statement}
-use Rattle.strings.proofs.eight.Tie as tie
+use Rattle.strings.proofs.by_blocks.Statement.{statement}
+use Rattle.strings.proofs.by_blocks.Tie as tie
 
 abbrev Inv-loop : tie.InvT-loop
 Inv-loop s i₀ i = (i ≤ length s) × (wellFormed 0 s ≡ wellFormed 0 (drop i s))
@@ -23,18 +23,18 @@ loop-holds c = (omega arith, refl)
 returns : tie.Need-returns Inv-loop μ-loop
 returns c =
     let l = c .before .before .before .loop in
-    sym (l .inv .1 ∙ passed-not 128 _ (l .i) _ (omega arith) (omega arith) (c .before .passed .ensures (omega arith)) (c .if1 .taken))
+    sym (l .inv .1 ∙ passed-not _ (l .i) _ (omega arith) (c .before .passed .ensures (omega arith)) (c .if1 .taken))
 
 loop-less : tie.Need-loop-less Inv-loop μ-loop
 loop-less c =
     let l = c .before .before .before .loop in
-    omega (arith, passed-on 128 _ (l .i) _ (omega arith) (omega arith) (c .before .passed .ensures (omega arith)) (c .if1 .left) .0)
+    omega (arith, passed-on _ (l .i) _ (omega arith) (c .before .passed .ensures (omega arith)) (c .if1 .left) .0)
 
 loop-again : tie.Need-loop-again Inv-loop μ-loop
 loop-again c =
     let l = c .before .before .before .loop in
     let p = c .before .passed .ensures (omega arith) in
-    (p .there, l .inv .1 ∙ passed-on 128 _ (l .i) _ (omega arith) (omega arith) p (c .if1 .left) .1)
+    (p .there, l .inv .1 ∙ passed-on _ (l .i) _ (omega arith) p (c .if1 .left) .1)
 
 returns-2 : tie.Need-returns-2 Inv-loop μ-loop
 returns-2 c =
@@ -42,5 +42,5 @@ returns-2 c =
     let l = c .before .loop in
     well-end 0 (now (a .s)) (l .i) (omega arith) ∙ sym (l .inv .1)
 
-pub eight-spec : {M : Type 1} → statement M
-eight-spec = tie.close (tie.spec Inv-loop μ-loop loop-holds (λ c κs. search needs) returns loop-less loop-again returns-2)
+pub by-blocks-spec : {M : Type 1} → statement M
+by-blocks-spec = tie.close (tie.spec Inv-loop μ-loop loop-holds (λ c κs. search needs) returns loop-less loop-again returns-2)
