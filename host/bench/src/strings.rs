@@ -58,6 +58,9 @@ fn texts() -> impl Iterator<Item = Text> {
     encodings.flat_map(|u| TEXTS.map(|(name, repeated)| text(name, u, repeated)))
 }
 
+/// Says whether a string is well-formed.
+type Check<'a> = &'a dyn Fn(usize, &[u8]) -> bool;
+
 /// What Rust's own decoders say.
 fn rust(u: usize, s: &[u8]) -> bool {
     if u == 0 {
@@ -97,7 +100,7 @@ fn timed(check: impl Fn(usize, &[u8]) -> bool, text: &Text) -> f64 {
 }
 
 /// The quickest of many runs of each, all by turns.
-fn quickest(checks: &[&dyn Fn(usize, &[u8]) -> bool], text: &Text, runs: usize) -> Vec<f64> {
+fn quickest(checks: &[Check], text: &Text, runs: usize) -> Vec<f64> {
     let mut best = vec![f64::INFINITY; checks.len()];
     for _ in 0..runs {
         for (best, check) in best.iter_mut().zip(checks) {
@@ -111,7 +114,7 @@ fn print_checks(proved: &Library, old: Option<WellFormed>, runs: usize) {
     let now = proved.well_formed.expect("the linked library has it");
     let now = |u: usize, s: &[u8]| well_formed(now, u, s);
     let before = |u: usize, s: &[u8]| old.is_some_and(|old| well_formed(old, u, s));
-    let mut checks: Vec<&dyn Fn(usize, &[u8]) -> bool> = vec![&now, &rust];
+    let mut checks: Vec<Check> = vec![&now, &rust];
     print!("{:<22} {:>7} {:>7}", "well-formed?", "proved", "Rust");
     println!(
         "{}",
@@ -132,7 +135,7 @@ fn print_checks(proved: &Library, old: Option<WellFormed>, runs: usize) {
 fn print_characters(proved: &Library, old: Option<&Library>, runs: usize) {
     let now = |u: usize, s: &[u8]| characters(proved, u, s) > 0;
     let before = |u: usize, s: &[u8]| old.is_some_and(|old| characters(old, u, s) > 0);
-    let mut checks: Vec<&dyn Fn(usize, &[u8]) -> bool> = vec![&now];
+    let mut checks: Vec<Check> = vec![&now];
     print!("{:<22} {:>7}", "one by one", "proved");
     println!(
         "{}",
