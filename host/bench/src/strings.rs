@@ -2,6 +2,7 @@
 //! character by character.
 
 use crate::library::{Library, WellFormed};
+use second::is_well_formed;
 use std::hint::black_box;
 use std::time::Instant;
 
@@ -61,17 +62,6 @@ fn texts() -> impl Iterator<Item = Text> {
 /// Says whether a string is well-formed.
 type Check<'a> = &'a dyn Fn(usize, &[u8]) -> bool;
 
-/// What Rust's own decoders say.
-fn rust(u: usize, s: &[u8]) -> bool {
-    if u == 0 {
-        return std::str::from_utf8(s).is_ok();
-    }
-    let units = s.chunks_exact(2);
-    let even = units.remainder().is_empty();
-    let units = units.map(|unit| u16::from_be_bytes([unit[0], unit[1]]));
-    even && char::decode_utf16(units).all(|character| character.is_ok())
-}
-
 fn well_formed(check: WellFormed, u: usize, s: &[u8]) -> bool {
     // SAFETY: the pointer goes with its own slice's length.
     unsafe { check(u, s.as_ptr(), s.len()) }
@@ -114,7 +104,7 @@ fn print_checks(proved: &Library, old: Option<WellFormed>, runs: usize) {
     let now = proved.well_formed.expect("the linked library has it");
     let now = |u: usize, s: &[u8]| well_formed(now, u, s);
     let before = |u: usize, s: &[u8]| old.is_some_and(|old| well_formed(old, u, s));
-    let mut checks: Vec<Check> = vec![&now, &rust];
+    let mut checks: Vec<Check> = vec![&now, &is_well_formed];
     print!("{:<22} {:>7} {:>7}", "well-formed?", "proved", "Rust");
     println!(
         "{}",

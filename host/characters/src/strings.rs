@@ -1,6 +1,7 @@
 //! Whole strings against Rust's own decoding: one sequence, well-formed or not, at every place of a
 //! run of characters that is shorter than a block, ends with one, or goes on into the next ones.
 
+use second::is_well_formed;
 use std::fmt::{self, Display, Formatter};
 
 /// Answers whether a string is well-formed.
@@ -118,17 +119,6 @@ impl Strings {
         self.well_formed += u64::from(expected);
         Ok(())
     }
-}
-
-/// What Rust's own decoding says.
-fn is_well_formed(u: usize, s: &[u8]) -> bool {
-    if u == 0 {
-        return std::str::from_utf8(s).is_ok();
-    }
-    let units = s.chunks_exact(2);
-    let even = units.remainder().is_empty();
-    let units = units.map(|unit| u16::from_be_bytes([unit[0], unit[1]]));
-    even && char::decode_utf16(units).all(|character| character.is_ok())
 }
 
 impl Display for Strings {

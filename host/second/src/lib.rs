@@ -19,7 +19,7 @@ use unit::{Part, Unit};
 pub use boxes::{step, Step};
 pub use lent::Lent;
 pub use style::check;
-pub use write::{describe, write};
+pub use write::{describe, is_well_formed, write};
 
 /// The longest sample, and the least length of a lent output.
 pub const LONGEST_SAMPLE: usize = 1024;

@@ -129,7 +129,8 @@ fn whole_characters(u: usize, string: &[u8], most: usize) -> usize {
     even - if in_a_pair { 2 } else { 0 }
 }
 
-fn is_well_formed(u: usize, string: &[u8]) -> bool {
+/// What Rust's own decoders say of a string.
+pub fn is_well_formed(u: usize, string: &[u8]) -> bool {
     if u == 0 {
         return from_utf8(string).is_ok();
     }
