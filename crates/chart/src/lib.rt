@@ -7,8 +7,8 @@ ghost use Rattle.laws.specs.Rows.{_⇒_⁏_};
 ghost use Rattle.text.specs.Chart.{chart, within, follows, charted};
 ghost use Rattle.text.specs.Unicode.{character};
 
-// As the Unicode Standard has it (table 3-7): lead from and to, second from and to, length. Third and fourth bytes are 80 to BF. In the first
-// row nothing stands behind the lead byte.
+// As the Unicode Standard has it (table 3-7): lead from and to, second from and to, length. Third and fourth bytes are 80 to BF. In the
+// first row nothing stands behind the lead byte.
 const CHART: [Row; 9] = [
     Row(Range(0x00, 0x7F), Range(0x00, 0x00), 1),
     Row(Range(0xC2, 0xDF), Range(0x80, 0xBF), 2),

@@ -1,9 +1,7 @@
 // A string, character by character: whether it is well-formed, and its furthest boundary within a limit. u is as in `finder`.
 ghost use mathlib.Core.Path.{_≡_};
-ghost use Prim.Native.Nat.{_≤_};
-ghost use lib.ListN.{length};
 ghost use Rattle.text.specs.Unicode.{wellFormed, boundary};
-ghost use Rattle.text.specs.Runs.{ascii, Passed, blockEnd};
+ghost use Rattle.text.specs.Runs.{ascii, walkedTo, blockEnd};
 
 // How many bytes are looked at together, whether they are all ASCII.
 const BLOCK: usize = 128;
@@ -36,9 +34,10 @@ fn by_blocks(s: &[u8]) -> bool
     true
 }
 
-// The place behind a block of ASCII, or behind the characters that begin in the block; `at` where one of them is not well-formed.
+// The place behind the characters that begin in the next block; `at` where one of them is not well-formed. A block of ASCII is passed
+// over whole.
 fn passed(s: &[u8], at: usize) -> usize
-    ensures { λ e. ⌜ (at ≤ length (now (s .entry)) → Passed 0 (now (s .entry)) at (blockEnd (now (s .entry)) at) e) ⌝ }
+    ensures { λ e. ⌜ e ≡ walkedTo 0 (now (s .entry)) at (blockEnd (now (s .entry)) at) ⌝ }
 {
     let block = octets::cut(s, at, BLOCK);
     let to = at + block.len();
@@ -65,7 +64,7 @@ fn ascii(s: &[u8]) -> bool
 
 // The place behind the characters that begin before `to`; `at` where one of them is not well-formed.
 fn walked(u: usize, s: &[u8], at: usize, to: usize) -> usize
-    ensures { λ e. ⌜ (at ≤ to → to ≤ length (now (s .entry)) → Passed u (now (s .entry)) at to e) ⌝ }
+    ensures { λ e. ⌜ e ≡ walkedTo u (now (s .entry)) at to ⌝ }
 {
     let mut i = at;
     while i < to {

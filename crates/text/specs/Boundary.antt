@@ -2,16 +2,16 @@
 use Prim.Native.Nat.{ℕ, zero, suc, _+_, _-_, _<_, _≤_}
 use native.Mathlib.Omega.{arith}
 use mathlib.Core.Path.{_≡_, refl, sym, ap, _∙_}
-use mathlib.Core.Bool.{true}
-use mathlib.Core.List.{List, [], _∷_, _++_, append-assoc}
+use mathlib.Core.Bool.{Bool, true, false}
+use mathlib.Core.List.{List, [], _∷_, _++_, append-assoc, append-nil}
 use lib.ListN.{length, take, drop, length-append, length-drop, take-append-drop}
 use lib.Seq.{drop-at, take-add, length-take-le}
-use Rattle.laws.specs.Rows.{no, ge, ne, ne-of, ge-of, each, and-of}
+use Rattle.laws.specs.Rows.{_<?_, no, ge, ne, ne-of, lt-of, ge-of, each, and-of}
 use Rattle.text.specs.Unicode.{scalar, encoded, character, encodings, scalars, WellFormed, reachWithin, reach}
 use Rattle.text.specs.Encoding.{encoded-sized}
-use Rattle.text.specs.Finder.{finder-complete, character-within}
+use Rattle.text.specs.Finder.{finder-complete, character-within, character-at}
 use Rattle.text.specs.Walk.{reach-turn}
-use Rattle.text.specs.Strings.{cut-well, empty-well, front-well}
+use Rattle.text.specs.Strings.{join-well, cut-well, empty-well, front-well}
 
 -- the character in front is passed over
 reach-step : (U c : ℕ) (rest : List ℕ) (limit : ℕ) → scalar c ≡ true → length (encoded U c) ≤ limit
@@ -82,6 +82,26 @@ boundary-largest U s limit e h =
     let l : length x ≡ e = sym (ap length (w .same)) ∙ length-take-le e s (h .there) in
     let t : x ++ drop e s ≡ s = ap (λ (y : List ℕ). y ++ drop e s) (sym (w .same)) ∙ take-append-drop e s in
     omega (arith, h .within, rw t at (reach-past U (w .values) (drop e s) limit (w .good) (omega (arith, h .within))))
+
+-- so the character that stands there goes on beyond the limit
+pub boundary-next : (U : ℕ) (s : List ℕ) (limit : ℕ) → 0 < character U (drop (reach U s limit) s)
+    → limit < reach U s limit + character U (drop (reach U s limit) s)
+boundary-next U s limit h = go (limit <? reach U s limit + character U (drop (reach U s limit) s)) refl
+  where
+    r : ℕ
+    r = reach U s limit
+
+    k : ℕ
+    k = character U (drop r s)
+
+    go : (b : Bool) → (limit <? r + k) ≡ b → limit < r + k
+    go true e = lt-of _ _ e
+    go false e =
+        let w = boundary-whole U s limit in
+        let one : WellFormed U (take k (drop r s)) = rw append-nil at (front-well U (drop r s) [] h (empty-well U [] refl)) in
+        let further : Reached U s limit (r + k) =
+        record { within = ge-of _ _ e; there = character-at U s r (w .there); whole = rw take-add (join-well U _ _ (w .whole) one) } in
+        absurd (omega (arith, h, boundary-largest U s limit (r + k) further))
 
 -- a well-formed string cut at the boundary has two well-formed parts
 pub cut-at-boundary : (U : ℕ) (s : List ℕ) (limit : ℕ) → WellFormed U s

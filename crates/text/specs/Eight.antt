@@ -50,7 +50,7 @@ more-to m k h = omega arith
 
 -- ---- the encoding of a number, form by form: m is the number without its third and fourth byte
 
-utf8-one : (c : ℕ) → c < 0x80 → utf8 c ≡ c ∷ []
+pub utf8-one : (c : ℕ) → c < 0x80 → utf8 c ≡ c ∷ []
 unfolding utf8
 utf8-one c h = sym (yes _ _ (lt _ _ h) refl)
 

@@ -26,7 +26,7 @@ well-step U c rest good =
     (ap (wellFormed U) (sym (drop-at x rest (character U (x ++ rest)) (sym k))))))
 
 -- whole characters in front are passed over
-pub well-past : (U : ℕ) (cs rest : List ℕ) → scalars cs ≡ true → wellFormed U (encodings U cs ++ rest) ≡ wellFormed U rest
+well-past : (U : ℕ) (cs rest : List ℕ) → scalars cs ≡ true → wellFormed U (encodings U cs ++ rest) ≡ wellFormed U rest
 unfolding encodings scalars
 well-past U [] rest good = refl
 well-past U (c ∷ cs) rest good =
@@ -73,7 +73,7 @@ well-found U s w =
 
 -- ---- strings joined and cut
 
-behind-well : (U : ℕ) (a b : List ℕ) → WellFormed U a → wellFormed U (a ++ b) ≡ wellFormed U b
+pub behind-well : (U : ℕ) (a b : List ℕ) → WellFormed U a → wellFormed U (a ++ b) ≡ wellFormed U b
 behind-well U a b w = ap (λ (x : List ℕ). wellFormed U (x ++ b)) (w .same) ∙ well-past U (w .values) b (w .good)
 
 -- two well-formed strings, one behind the other, are one

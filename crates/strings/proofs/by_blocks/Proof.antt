@@ -7,7 +7,7 @@ use denote.Ref.{now}
 use lib.ListN.{length, drop}
 use Rattle.text.specs.Unicode.{wellFormed}
 use Rattle.text.specs.Walk.{well-end}
-use Rattle.text.specs.Runs.{passed-on, passed-not}
+use Rattle.text.specs.Runs.{block-there, block-on, block-not}
 use Rattle.strings.proofs.by_blocks.Statement.{statement}
 use Rattle.strings.proofs.by_blocks.Tie as tie
 
@@ -23,18 +23,18 @@ loop-holds c = (omega arith, refl)
 returns : tie.Need-returns Inv-loop μ-loop
 returns c =
     let l = c .before .before .before .loop in
-    sym (l .inv .1 ∙ passed-not _ (l .i) _ (omega arith) (c .before .passed .ensures (omega arith)) (c .if1 .taken))
+    sym (l .inv .1 ∙ block-not _ (l .i) _ (omega arith) (c .before .passed .ensures) (c .if1 .taken))
 
 loop-less : tie.Need-loop-less Inv-loop μ-loop
 loop-less c =
     let l = c .before .before .before .loop in
-    omega (arith, passed-on _ (l .i) _ (omega arith) (c .before .passed .ensures (omega arith)) (c .if1 .left) .0)
+    omega (arith, block-on _ (l .i) _ (omega arith) (c .before .passed .ensures) (c .if1 .left) .0)
 
 loop-again : tie.Need-loop-again Inv-loop μ-loop
 loop-again c =
     let l = c .before .before .before .loop in
-    let p = c .before .passed .ensures (omega arith) in
-    (p .there, l .inv .1 ∙ passed-on _ (l .i) _ (omega arith) p (c .if1 .left) .1)
+    let p = c .before .passed .ensures in
+    (block-there _ (l .i) _ (omega arith) p, l .inv .1 ∙ block-on _ (l .i) _ (omega arith) p (c .if1 .left) .1)
 
 returns-2 : tie.Need-returns-2 Inv-loop μ-loop
 returns-2 c =

@@ -1,30 +1,29 @@
--- `strings::passed` meets its contract: a block of ASCII is passed over whole, any other character by character. Assumes nothing.
+-- `strings::passed` meets its contract: the characters of a block of ASCII end with it. Assumes nothing.
 use native.Mathlib.Omega.{arith}
-use mathlib.Core.Path.{sym, _∙_}
+use mathlib.Core.Path.{sym, ap, _∙_}
 use borrow.Author.Needs.{needs}
 use denote.Ref.{now}
-use Rattle.text.specs.Runs.{block-end, block-within, ascii-passed}
+use Rattle.text.specs.Runs.{walkedTo, block-end, block-within, ascii-walked}
 use Rattle.strings.proofs.passed.Statement.{statement}
 use Rattle.strings.proofs.passed.Tie as tie
 
 add-to : tie.Need-add-to
 add-to c =
     let a = c .before .before .args in
-    omega (arith, block-within (now (a .s)) _ (a .at) (c .cut .ensures) .1)
+    omega (arith, block-within (now (a .s)) _ (a .at) (c .cut .ensures))
 
 returns : tie.Need-returns
-returns c h =
+returns c =
     let a = c .before .before .before .before .args in
     let cut = c .before .before .cut .ensures in
-    let all = sym (c .before .ascii .ensures) ∙ c .if1 .taken in
-    rw (block-end (now (a .s)) _ (a .at) cut) (ascii-passed (now (a .s)) _ (a .at) cut h all)
+    ascii-walked (now (a .s)) _ (a .at) cut (sym (c .before .ascii .ensures) ∙ c .if1 .taken)
+    ∙ ap (walkedTo 0 (now (a .s)) (a .at)) (block-end (now (a .s)) _ (a .at) cut)
 
 returns-2 : tie.Need-returns-2
-returns-2 c h =
+returns-2 c =
     let a = c .before .before .before .before .before .args in
     let cut = c .before .before .before .cut .ensures in
-    rw (block-end (now (a .s)) _ (a .at) cut)
-    (c .walked .ensures (omega arith) (block-within (now (a .s)) _ (a .at) cut .0 h))
+    c .walked .ensures ∙ ap (walkedTo 0 (now (a .s)) (a .at)) (block-end (now (a .s)) _ (a .at) cut)
 
 pub passed-spec : {M : Type 1} → statement M
 passed-spec =
