@@ -3,7 +3,7 @@ use text::Range;
 use text::Row;
 ghost use mathlib.Core.Path.{_≡_};
 ghost use lib.ListN.{drop};
-ghost use Rattle.laws.specs.Rows.{_⇒_⁏_};
+ghost use Rattle.laws.specs.Rows.{_⇒_⁏_, _<?_};
 ghost use Rattle.text.specs.Chart.{chart, within, follows, charted};
 ghost use Rattle.text.specs.Unicode.{character};
 
@@ -44,12 +44,15 @@ pub fn eight(s: &[u8]) -> usize
     three(s)
 }
 
-// The rows of three bytes, and those behind them.
+// The rows of three bytes, and those behind them. A lead byte past the last of them asks none of them.
 fn three(s: &[u8]) -> usize
     ensures { λ r. ⌜ r ≡ charted (drop 2 chart) (now (s .entry)) ⌝ }
 {
     let rows = chart();
     let lead = octets::byte(s, 0);
+    if is_past(rows[5], lead) {
+        return four(s);
+    }
     if leads(rows[2], lead) {
         return size(s, rows[2]);
     }
@@ -101,6 +104,14 @@ fn leads(row: Row, lead: usize) -> bool
     ensures { λ r. ⌜ r ≡ within (row .0) lead ⌝ }
 {
     within(row.0, lead)
+}
+
+// Whether a byte is past a row's lead bytes.
+fn is_past(row: Row, lead: usize) -> bool
+    ensures { λ r. ⌜ r ≡ (row .0 .1 <? lead) ⌝ }
+{
+    let leads = row.0;
+    leads.1 < lead
 }
 
 // The length that a row has, where its bytes follow.

@@ -1,12 +1,12 @@
 -- The finder: `character` finds exactly the encodings of scalar values. Assumes nothing.
 use Prim.Native.Nat.{ℕ, zero, suc, _+_, _<_, _≤_}
 use native.Mathlib.Omega.{arith}
-use mathlib.Core.Path.{_≡_, refl, ap, _∙_}
+use mathlib.Core.Path.{_≡_, refl, sym, ap, _∙_}
 use mathlib.Core.Bool.{Bool, true, false}
 use mathlib.Core.List.{List, _++_}
 use lib.ListN.{length, drop, getD, length-take, length-drop}
 use lib.Seq.{drop-cons}
-use Rattle.laws.specs.Rows.{_⇒_⁏_, _=?_, yes, no, eq, ne}
+use Rattle.laws.specs.Rows.{_⇒_⁏_, _<?_, _=?_, yes, no, lt-of, eq, ne}
 use Rattle.laws.specs.Exactly.{Exactly}
 use Rattle.octets.specs.Be.{u8At}
 use Rattle.text.specs.declared.Row.{Row}
@@ -14,6 +14,7 @@ use Rattle.text.specs.Chart.{chart, within, follows, charted, paired}
 use Rattle.text.specs.Unicode.{scalar, utf8, utf16, encoded, character}
 use Rattle.text.specs.Laws.{saw}
 use Rattle.text.specs.Encoding.{encoded-sized}
+use Rattle.text.specs.Ranges.{within-not}
 use Rattle.text.specs.Front.{Front, exactly}
 use Rattle.text.specs.Eight.{chart-sound, chart-complete}
 use Rattle.text.specs.Sixteen.{paired-sound, paired-complete}
@@ -81,6 +82,20 @@ module _ (k : ℕ) (s : List ℕ) (n : ℕ) (rows : List Row) (d : Row) (t : Boo
   pub row-told : t ≡ true → n ≡ (follows (getD rows k d) s ⇒ getD rows k d .2 ⁏ 0) → n ≡ charted (drop k chart) s
   unfolding charted chart
   row-told g on = rw (drop-cons chart k d h) (yes _ _ (asked-of true g) (rw e at on))
+
+-- a lead byte past the last row of three bytes asks none of them
+skipped : (s : List ℕ) → 0xEF < u8At s 0 → charted (drop 6 chart) s ≡ charted (drop 2 chart) s
+unfolding charted chart
+skipped s h =
+    no _ _ (within-not _ _ (omega arith))
+    (no _ _ (within-not _ _ (omega arith)) (no _ _ (within-not _ _ (omega arith)) (no _ _ (within-not _ _ (omega arith)) refl)))
+
+pub rows-skipped : (s : List ℕ) (rows : List Row) (d : Row) (t : Bool) (b : ℕ)
+    → rows ≡ chart → t ≡ (getD rows 5 d .0 .1 <? b) → b ≡ u8At s 0 → t ≡ true → charted (drop 6 chart) s ≡ charted (drop 2 chart) s
+unfolding chart
+rows-skipped s rows d t b e asked lead h =
+    let p : (0xEF <? b) ≡ true = ap (λ (l : List Row). getD l 5 d .0 .1 <? b) (sym e) ∙ sym asked ∙ h in
+    skipped s (omega (arith, lt-of _ _ p, lead))
 
 pub rows-end : (s : List ℕ) → 0 ≡ charted (drop 9 chart) s
 unfolding charted chart

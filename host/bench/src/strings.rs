@@ -100,50 +100,22 @@ fn quickest(checks: &[Check], text: &Text, runs: usize) -> Vec<f64> {
     best
 }
 
-fn print_checks(proved: &Library, old: Option<WellFormed>, runs: usize) {
-    let now = proved.well_formed.expect("the linked library has it");
-    let now = |u: usize, s: &[u8]| well_formed(now, u, s);
-    let before = |u: usize, s: &[u8]| old.is_some_and(|old| well_formed(old, u, s));
-    let mut checks: Vec<Check> = vec![&now, &is_well_formed];
-    print!("{:<22} {:>7} {:>7}", "well-formed?", "proved", "Rust");
-    println!(
-        "{}",
-        if old.is_some() {
-            "     old    /Rust     /old"
-        } else {
-            "    /Rust"
-        }
-    );
-    if old.is_some() {
-        checks.push(&before);
+/// A line for every text: the times, and the first one's ratio to each of the others.
+fn print_table(title: &str, named: &[(&str, Check)], runs: usize) {
+    print!("{title:<22}");
+    for (name, _) in named {
+        print!(" {name:>7}");
     }
+    for (name, _) in &named[1..] {
+        print!(" {:>8}", format!("/{name}"));
+    }
+    println!();
+    let checks: Vec<Check> = named.iter().map(|(_, check)| *check).collect();
     for text in texts() {
         print_row(&text.name, &quickest(&checks, &text, runs));
     }
 }
 
-fn print_characters(proved: &Library, old: Option<&Library>, runs: usize) {
-    let now = |u: usize, s: &[u8]| characters(proved, u, s) > 0;
-    let before = |u: usize, s: &[u8]| old.is_some_and(|old| characters(old, u, s) > 0);
-    let mut checks: Vec<Check> = vec![&now];
-    print!("{:<22} {:>7}", "one by one", "proved");
-    println!(
-        "{}",
-        if old.is_some() {
-            "     old     /old"
-        } else {
-            ""
-        }
-    );
-    if old.is_some() {
-        checks.push(&before);
-    }
-    for text in texts() {
-        print_row(&text.name, &quickest(&checks, &text, runs));
-    }
-}
-
-/// The times, and the first one's ratio to each of the others.
 fn print_row(name: &str, times: &[f64]) {
     print!("{name:<22}");
     for time in times {
@@ -159,7 +131,17 @@ pub fn print(proved: &Library, old: Option<&Library>, runs: usize) {
     println!();
     println!("Nanoseconds a string of {BYTES} bytes (whole characters), the quickest of {runs} runs of {CHECKS} strings, all by turns.");
     println!();
-    print_checks(proved, old.and_then(|old| old.well_formed), runs);
+    let now = proved.well_formed.expect("the linked library has it");
+    let before = old.and_then(|old| old.well_formed);
+    let now = |u: usize, s: &[u8]| well_formed(now, u, s);
+    let before = before.map(|check| move |u: usize, s: &[u8]| well_formed(check, u, s));
+    let mut named: Vec<(&str, Check)> = vec![("proved", &now), ("Rust", &is_well_formed)];
+    named.extend(before.iter().map(|check| ("old", check as Check)));
+    print_table("well-formed?", &named, runs);
     println!();
-    print_characters(proved, old, runs);
+    let now = |u: usize, s: &[u8]| characters(proved, u, s) > 0;
+    let before = old.map(|old| move |u: usize, s: &[u8]| characters(old, u, s) > 0);
+    let mut named: Vec<(&str, Check)> = vec![("proved", &now)];
+    named.extend(before.iter().map(|check| ("old", check as Check)));
+    print_table("one by one", &named, runs);
 }
