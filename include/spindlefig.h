@@ -5,7 +5,7 @@
  *
  * A slice goes as a pointer and a length, counted in elements: so much memory is there, the pointer is not null even where the length
  * is 0, and slices of one call do not overlap. Places are cleared to zeros before set-up and then left to the relay. This is C's share;
- * beyond it nothing has to be checked beforehand: what is wrong is refused by its number, 1 to 16, and a row that is too short gets
+ * beyond it nothing has to be checked beforehand: what is wrong is refused by its number, 1 to 17, and a row that is too short gets
  * what fits. What each call answers and leaves is proved in crates/export, for every input.
  *
  * Set-up keeps the number of desks in the memory itself, at the front of the marks: marks[0] is n, marks[1] and marks[2] are 0. Every
@@ -47,7 +47,7 @@ enum {
     SPINDLEFIG_REPEAT = 4,
     SPINDLEFIG_DESCRIBED = 5,
     SPINDLEFIG_SKIPPED = 6,   /* the TYPE */
-    SPINDLEFIG_REFUSED = 7    /* the refusal */
+    SPINDLEFIG_REFUSED = 7    /* the refusal: 1 to 10, or 17 where the string is not well-formed */
 };
 
 /* ---- Kinds of what stands at a place of the modifiers, and the number that follows the next place and the kind in its row. ---- */
@@ -66,7 +66,9 @@ size_t spindlefig_set_up(size_t n,
 
 /* Takes the unit at the front of the rest. The row gets: bytes used, next running time, kind, and the numbers of the kind.
  * Answers the bytes used: hand `next` back as the time, and go on so many bytes further, until no bytes are used. That is at the end of
- * the payload, and for refusals 1 and 2, which no later call of the same payload would escape. */
+ * the payload, and for refusals 1 and 2, which no later call of the same payload would escape. The string of a TYPE 1 unit, and the data
+ * of a TYPE 2 unit, have to be well-formed by themselves, UTF-8 or UTF-16 big-endian as U says: else 17, which adds no time. A string
+ * that is handed out is well-formed too. */
 size_t spindlefig_receive(spindlefig_place *places, size_t places_len,
                           uint32_t *rows, size_t rows_len,
                           uint32_t *marks, size_t marks_len,

@@ -144,10 +144,12 @@ static void walk(hall *h, const uint8_t *modifiers, size_t len) {
 int main(void) {
     static const uint8_t blink[12] = {0, 0, 0, 12, 'b', 'l', 'n', 'k', 0, 0, 0, 3};
     static const uint8_t bad[5] = {1, 0, 0, 128, 0};
+    static const uint8_t half_a_letter[10] = {1, 0, 9, 128, 0, 0, 5, 0, 1, 0xc3};
     static const uint8_t skipped[6] = {6, 0, 2, 7, 0, 2};
     hall h = open_hall();
     play_caption(&h, 0, 1000, "The fox enters, and the hens laugh.", blink, sizeof blink);
     receive(&h, 1, 1000, bad, sizeof bad);
+    receive(&h, 1, 1000, half_a_letter, sizeof half_a_letter);
     play_style(&h, 1, "green");
     refuse_short(&h);
     play_style(&h, 1, "white");

@@ -1,14 +1,15 @@
 -- What the writer writes for a description is read as it, and stored and shown as it. Assumes nothing.
 use Prim.Native.Nat.{ℕ, _*_, _≤_}
 use native.Mathlib.Omega.{arith}
-use mathlib.Core.Path.{_≡_}
+use mathlib.Core.Path.{_≡_, refl}
 use mathlib.Core.Bool.{false}
 use mathlib.Core.Logic.{_⊎_}
-use mathlib.Core.List.{List, _++_}
+use mathlib.Core.List.{List, [], _++_}
 use lib.ListN.{length, take}
 use Rattle.laws.specs.Exactly.{Exactly}
 use Rattle.paper.specs.Limits.{recordSize, window}
 use Rattle.paper.specs.declared.Outcome.the-variants as O
+use Rattle.text.specs.Strings.{empty-well}
 use Rattle.unit.specs.Layout.{description, reading, readOf, dataOf}
 use Rattle.unit.specs.Again.{Proper, description-unit, unit-again, data-again}
 use Rattle.writer.specs.declared.Written.the-variants.{Payload}
@@ -35,11 +36,12 @@ pub described-again : (SIDX : ℕ) (d : List ℕ) (M k : ℕ) (out : List ℕ) (
     → DescribedAgain SIDX d (take len (described SIDX d M k out .out)) len N
 described-again SIDX d M k out len N e =
     let w : DescriptionWritten SIDX d M k out (described SIDX d M k out .out) len N = described-written SIDX d M k out len N e in
-    let x : Proper (description SIDX (length d)) d = description-unit {d = d} (w .sent .index) (w .sent .some) (omega (arith, w .sent .few)) in
+    let x : Proper (description SIDX (length d)) d =
+    record { fit = description-unit {d = d} (w .sent .index) (w .sent .some) (omega (arith, w .sent .few)); text = empty-well 0 [] refl } in
     record {
       only = w .only;
       read = λ more. rw (w .front, w .size) (unit-again (description SIDX (length d)) d more x);
-      bytes = λ more. rw (w .front) (data-again (description SIDX (length d)) d more x);
+      bytes = λ more. rw (w .front) (data-again (description SIDX (length d)) d more (x .fit));
       stored = λ store newest. described-unless store newest SIDX d (w .sent .index) (w .sent .some) (w .sent .few);
       shows = λ book store newest long. stored-shown store newest SIDX d book long;
     }

@@ -22,7 +22,7 @@ use Rattle.unit.specs.declared.Part.{Part}
 use Rattle.unit.specs.declared.Unit as U
 use Rattle.unit.specs.declared.Unit.the-variants.{Part as PartUnit}
 use Rattle.unit.specs.declared.Reading.{Reading}
-use Rattle.unit.specs.Layout.{fieldsOf, readOf, stringPart, modifiersPart}
+use Rattle.unit.specs.Layout.{fieldsOf, misspelled, readOf, stringPart, modifiersPart}
 use Rattle.unit.specs.Head.{partHead, headOf}
 use Rattle.unit.specs.Again.{bytesOf}
 use Rattle.boxes.specs.declared.Stepped.{Stepped}
@@ -108,9 +108,12 @@ strings-well-formed u s = equation (T.wellFormed u s)
 pub strings-boundary : (u : ℕ) (s : List ℕ) (at limit : ℕ) → Determines (λ (r : ℕ). r ≡ T.boundary u s at limit)
 strings-boundary u s at limit = equation (T.boundary u s at limit)
 
--- ---- fields, reads, part_header, header
+-- ---- fields, texts, reads, part_header, header
 pub fields-read-fields : (s : List ℕ) (u kind len : ℕ) → Determines (λ (r : U.Unit). r ≡ fieldsOf s u kind len)
 fields-read-fields s u kind len = equation (fieldsOf s u kind len)
+
+pub texts-misspelled : (rest : List ℕ) (x : U.Unit) → Determines (λ (r : Bool). r ≡ misspelled rest x)
+texts-misspelled rest x = equation (misspelled rest x)
 
 pub reads-read : (rest : List ℕ) → Determines (λ (r : Reading). r ≡ readOf rest)
 reads-read rest = equation (readOf rest)

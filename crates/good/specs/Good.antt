@@ -1,5 +1,5 @@
--- Good tables: n is in their head, they are long enough for n desks, with fair places, each of them as its parts made it. Set-up makes
--- them and every call keeps them, whatever it is handed. Assumes nothing.
+-- Good tables: n is in their head, they are long enough for n desks, with fair places, each of them as its parts made it, and of each
+-- open sample the text that is kept is well-formed. Set-up makes them and every call keeps them, whatever it is handed. Assumes nothing.
 use Prim.Native.Nat.{ℕ, zero, suc, _*_, _≤_, _<_}
 use native.Mathlib.Omega.{arith}
 use mathlib.Core.Path.{_≡_, refl, sym, ap, subst, _∙_}
@@ -15,8 +15,7 @@ use Rattle.paper.specs.declared.Refusal.the-variants as R
 use Rattle.paper.specs.declared.Name.{Name}
 use Rattle.sample.specs.declared.Place.{Place}
 use Rattle.sample.specs.Place.{closed}
-use Rattle.sample.specs.Kept.{Made}
-use Rattle.sample.specs.Made.{closed-made}
+use Rattle.sample.specs.Spelled.{Sane, closed-sane}
 use Rattle.desk.specs.Desk.{Own}
 use Rattle.memory.specs.declared.Started.the-variants.{Ready, Refused}
 use Rattle.memory.specs.Relay.{Tables, desksOf, placesOf, ownOf, sharesOf, placed, standsAt, putBack, improper, stranger, short}
@@ -32,9 +31,9 @@ use Rattle.good.specs.Leaves.{Leaves, ordered-leaves, yielded-leaves}
 abbrev pub name : (desk time : ℕ) → Name
 name desk time = record { desk = desk; time = time }
 
--- a place as its parts made it; a free one is the closed record
+-- a place as its parts made it, each TYPE 2 part well-formed in its U; a free one is the closed record
 pub record Well (p : Place) : Type 0 where
-  pub made : Made p
+  pub sane : Sane p
   pub free : p .used ≡ false → p ≡ closed
 
 pub record Good (n : ℕ) (s : Tables) : Type 0 where
@@ -124,7 +123,7 @@ set-up-good n s q =
       marks = omega (arith, length-sets (s .marks) 0 (freshMarks n));
       stores = omega (arith, ge-of _ _ (c .1), length-sets (s .stores) 0 (replicate (storesNeed n) 0));
       fair = rw (all-closed (places n) (s .places) p) (fair-closed n (places n));
-      well = λ i. rw (all-closed (places n) (s .places) p, none-open (places n) i) (record { made = closed-made; free = λ u. refl });
+      well = λ i. rw (all-closed (places n) (s .places) p, none-open (places n) i) (record { sane = closed-sane; free = λ u. refl });
     })
 
 -- one place more, as its parts made it
@@ -183,7 +182,7 @@ module _ (n : ℕ) (s : Tables) (desk time : ℕ) where
       well =
           rw (take-at (placed desk time (o .place) (placesOf n s)) (drop (places n) (s .places)) (places n) (fits .places))
           (well-set (placesOf n s) (standsAt desk time (o .place) (placesOf n s)) (o .place) (g .well)
-          (record { made = k .made (g .well _ .made); free = k .named .free }));
+          (record { sane = k .sane (g .well _ .sane); free = k .named .free }));
     }
 
   pub receive-left : (one : Bool) (rest out : List ℕ)

@@ -1,8 +1,9 @@
 -- What a call of a desk leaves of its own things: a place that is closed or its sample of that time, lists as long as they were, and a
--- new sample only where the shares let it through; and a place that parts made is left as parts made it. Assumes nothing.
+-- new sample only where the shares let it through; and a place that parts made is left as parts made it, its text well-formed.
+-- Assumes nothing.
 use Prim.Native.Nat.{ℕ, _<_}
 use native.Mathlib.Omega.{arith}
-use mathlib.Core.Path.{_≡_, refl, sym, ap, _∙_}
+use mathlib.Core.Path.{_≡_, refl, sym, ap, subst, _∙_}
 use mathlib.Core.Bool.{Bool, true, false, not, true≢false}
 use mathlib.Core.Logic.{_⊎_, inl, inr, _≢_}
 use mathlib.Core.List.{List}
@@ -10,23 +11,26 @@ use lib.ListN.{length, length-set}
 use Rattle.laws.specs.Rows.{_<?_, each, no, lt-of, ge-of, ne-of, or-none}
 use Rattle.paper.specs.Limits.{ownPlaces, common}
 use Rattle.finished.specs.Marks.{length-kept}
+use Rattle.text.specs.Unicode.{WellFormed}
 use Rattle.unit.specs.declared.Whole as W
 use Rattle.unit.specs.declared.Part as P
 use Rattle.unit.specs.declared.Unit.{Unit}
 use Rattle.unit.specs.declared.Unit.the-variants.{End, Skipped, Refused, Whole, Part, Description}
 use Rattle.unit.specs.Layout.{readOf, dataOf}
+use Rattle.unit.specs.Text.{WellSpelled, string-text, read-well}
 use Rattle.unit.specs.Reads.{Counts, Counted, reads-counted}
 use Rattle.sample.specs.declared.Place.{Place}
 use Rattle.sample.specs.Place.{bare, closed, has, agrees, oversize, kept}
-use Rattle.sample.specs.Kept.{Made, Fresh}
-use Rattle.sample.specs.Made.{closed-made, opened-made, keep-made}
+use Rattle.sample.specs.Kept.{Fresh}
+use Rattle.sample.specs.Spelled.{Sane, closed-sane, opened-sane, keep-sane}
 use Rattle.sample.specs.Repeat.{agrees-of}
 use Rattle.sample.specs.Told.{Name, keep-named}
 use Rattle.style.specs.Store.{noted}
 use Rattle.style.specs.Store as S
 use Rattle.style.specs.Slots.{stored-length}
 use Rattle.desk.specs.declared.Shares.{Shares}
-use Rattle.desk.specs.Desk.{Own, After, Given, own, inUse, finish, wholeTaken, sampleOf, conflicts, six, usedUp, completed, joining, descriptionTaken, taken, received, givenUp}
+use Rattle.desk.specs.Desk.{Own, After, Given, inUse, finish, wholeTaken, sampleOf, conflicts, six, usedUp, completed, joining}
+use Rattle.desk.specs.Desk.{descriptionTaken, taken, received, givenUp}
 use Rattle.memory.specs.Relay.{ordered, yielded}
 use Rattle.good.specs.Places.{Named, closed-free, closed-named}
 use Rattle.good.specs.Fair.{Passed}
@@ -37,7 +41,7 @@ pub record Leaves (h : Shares) (s : Own) (desk time : ℕ) (o : Own) : Type 0 wh
   pub marks : length (o .marks) ≡ length (s .marks)
   pub store : length (o .store) ≡ length (s .store)
   pub new : o .place .used ≡ true → s .place .used ≡ false → Passed h
-  pub made : Made (s .place) → Made (o .place)
+  pub sane : Sane (s .place) → Sane (o .place)
 
 -- six and the common use, where a new sample is neither refused 8 nor 9
 passes : (p : Place) (h : Shares) → p .used ≡ false → six p h ≡ false → usedUp p h ≡ false → Passed h
@@ -75,6 +79,15 @@ fresh-part q x d c a b =
     let t = agrees-of q x (agreed q x a) .total in
     record { from = c .from; to = omega (arith, c .to); new = no-conflict q x a .0; fits = b }
 
+-- the sample that a part belongs to, with the part
+pub part-sane : (p : Place) → Sane p → (desk time : ℕ) (x : P.Part) (d : List ℕ) → Counts x → WellSpelled (Part x) d
+    → let q = sampleOf p desk time x in conflicts q x ≡ false → oversize q x (length d) ≡ false → Sane (kept q x d)
+unfolding sampleOf
+part-sane p m desk time x d c w a b =
+    let q = sampleOf p desk time x in
+    let n = each Sane (p .used) p _ (λ u. m) (λ u. opened-sane desk time x (c .most)) in
+    keep-sane q n x d (fresh-part q x d c a b) (agreed q x a) (λ t. subst (WellFormed (x .u)) (string-text x d t) w)
+
 module _ (h : Shares) (s : Own) (desk time : ℕ) (named : Named desk time (s .place)) where
   same : s .place .used ≡ true → s .place .used ≡ false → Passed h
   same u f = absurd (true≢false (sym u ∙ f))
@@ -83,17 +96,17 @@ module _ (h : Shares) (s : Own) (desk time : ℕ) (named : Named desk time (s .p
   none u f = absurd (true≢false (sym u ∙ closed-free closed refl))
 
   stay-leaves : Leaves h s desk time s
-  stay-leaves = record { named = named; row = refl; marks = refl; store = refl; new = same; made = λ m. m }
+  stay-leaves = record { named = named; row = refl; marks = refl; store = refl; new = same; sane = λ m. m }
 
   finish-leaves : (p : Place) (o : List ℕ) → Named desk time p → (p .used ≡ true → s .place .used ≡ false → Passed h)
-      → (Made (s .place) → Made p) → Leaves h s desk time (finish s time p o)
+      → (Sane (s .place) → Sane p) → Leaves h s desk time (finish s time p o)
   finish-leaves p o n k m = record {
     named = n;
     row = length-kept (s .row) (inUse (s .marks)) time;
     marks = length-set (s .marks) 0 _;
     store = refl;
     new = k;
-    made = m;
+    sane = m;
   }
 
   abbrev L : After → Type 0
@@ -106,18 +119,18 @@ module _ (h : Shares) (s : Own) (desk time : ℕ) (named : Named desk time (s .p
       (λ q. each L _ _ _ (λ q. stay-leaves) (λ q. each L _ _ _ (λ q. stay-leaves) (λ q. finish-leaves (s .place) _ named same (λ m. m))))
 
   closes : (o : List ℕ) → Leaves h s desk time (finish s time closed o)
-  closes o = finish-leaves closed o (closed-named desk time) none (λ m. closed-made)
+  closes o = finish-leaves closed o (closed-named desk time) none (λ m. closed-sane)
 
-  completed-leaves : (used next : ℕ) (q : Place) → Named desk time q → (s .place .used ≡ false → Passed h) → (Made (s .place) → Made q)
+  completed-leaves : (used next : ℕ) (q : Place) → Named desk time q → (s .place .used ≡ false → Passed h) → (Sane (s .place) → Sane q)
       → L (completed s time used next q)
   unfolding completed
   completed-leaves used next q n k m =
-      each L _ _ _ (λ e. record { named = n; row = refl; marks = refl; store = refl; new = λ u. k; made = m })
+      each L _ _ _ (λ e. record { named = n; row = refl; marks = refl; store = refl; new = λ u. k; sane = m })
       (λ e. each L _ _ _ (λ e. closes _) (λ e. closes _))
 
   -- q is the sample that the part belongs to
   joining-leaves : (used next : ℕ) (q : Place) (x : P.Part) (d : List ℕ) → Named desk time (kept q x d)
-      → (conflicts q x ≡ false → oversize q x (length d) ≡ false → Made (s .place) → Made (kept q x d))
+      → (conflicts q x ≡ false → oversize q x (length d) ≡ false → Sane (s .place) → Sane (kept q x d))
       → L (joining h s time used next q x d)
   unfolding joining
   joining-leaves used next q x d n m =
@@ -144,27 +157,23 @@ module _ (h : Shares) (s : Own) (desk time : ℕ) (named : Named desk time (s .p
         free = λ f. absurd (true≢false (sym (o .0) ∙ sym (ap (λ (n : Name). n .used) e) ∙ f));
       }
 
-  sample-made : (x : P.Part) → Counts x → Made (s .place) → Made (sampleOf (s .place) desk time x)
-  unfolding sampleOf
-  sample-made x c m = each (λ (q : Place). Made q) _ _ _ (λ u. m) (λ u. opened-made desk time x (c .most))
-
-  taken-leaves : (used : ℕ) (rest : List ℕ) (x : Unit) → Counted x → L (taken h s desk time used rest x)
+  taken-leaves : (used : ℕ) (rest : List ℕ) (x : Unit) → Counted x → WellSpelled x (dataOf rest x) → L (taken h s desk time used rest x)
   unfolding descriptionTaken
-  taken-leaves used rest End c = stay-leaves
-  taken-leaves used rest (Skipped t) c = stay-leaves
-  taken-leaves used rest (Refused r) c = stay-leaves
-  taken-leaves used rest (Whole w) c = whole-leaves used w (dataOf rest (Whole w))
-  taken-leaves used rest (Part x) c =
+  taken-leaves used rest End c k = stay-leaves
+  taken-leaves used rest (Skipped t) c k = stay-leaves
+  taken-leaves used rest (Refused r) c k = stay-leaves
+  taken-leaves used rest (Whole w) c k = whole-leaves used w (dataOf rest (Whole w))
+  taken-leaves used rest (Part x) c k =
       let d = dataOf rest (Part x) in
       let q = sampleOf (s .place) desk time x in
-      joining-leaves used _ q x d (kept-named x d) (λ a b m. let n = sample-made x c m in keep-made q n x d (fresh-part q x d c a b))
-  taken-leaves used rest (Description w) c = record {
+      joining-leaves used _ q x d (kept-named x d) (λ a b m. part-sane (s .place) m desk time x d c k a b)
+  taken-leaves used rest (Description w) c k = record {
     named = named;
     row = refl;
     marks = length-set (s .marks) 1 _;
     store = noted-length (s .store) _ (w .sidx) (dataOf rest (Description w));
     new = same;
-    made = λ m. m;
+    sane = λ m. m;
   }
 
   pub ordered-leaves : (one : Bool) (rest : List ℕ) → Leaves h s desk time (ordered one h s desk time rest .own)
@@ -172,7 +181,7 @@ module _ (h : Shares) (s : Own) (desk time : ℕ) (named : Named desk time (s .p
   ordered-leaves one rest =
       each L _ _ _ (λ e. stay-leaves)
       (λ e. each L _ _ _ (λ e. stay-leaves)
-      (λ e. taken-leaves (readOf rest .used) rest (readOf rest .unit) (reads-counted rest)))
+      (λ e. taken-leaves (readOf rest .used) rest (readOf rest .unit) (reads-counted rest) (read-well rest)))
 
   pub yielded-leaves : (one : Bool) → Leaves h s desk time (yielded one s time .own)
   unfolding yielded givenUp

@@ -19,7 +19,7 @@ use Rattle.paper.specs.declared.Outcome.the-variants as O
 use Rattle.unit.specs.declared.Unit.{Unit}
 use Rattle.unit.specs.declared.Unit.the-variants.{End, Skipped, Refused, Whole, Part, Description}
 use Rattle.unit.specs.Layout.{readOf}
-use Rattle.unit.specs.Reads.{Known, reads-known}
+use Rattle.unit.specs.Reads.{Known, other-number, reads-known}
 use Rattle.sample.specs.declared.Place.{Place}
 use Rattle.style.specs.Store.{noted}
 use Rattle.style.specs.Store as S
@@ -67,7 +67,10 @@ unfolding wholeTaken asksPart joining descriptionTaken noted
 taken-served h s desk time used rest End k w = no-refusal O.End (omega arith)
 taken-served h s desk time used rest (Skipped t) k w = no-refusal (O.Skipped t) (omega arith)
 taken-served h s desk time used rest (Refused r) k w =
-    other r (⊎-elim (λ e. omega (arith, ap numberOf e)) (λ e. omega (arith, ap numberOf e)) w)
+    other r (
+      other-number r 8 w (λ e. omega arith) (λ e. omega arith) (λ e. omega arith),
+      other-number r 9 w (λ e. omega arith) (λ e. omega arith) (λ e. omega arith),
+    )
 taken-served h s desk time used rest (Whole x) k w =
     each Served _ _ _ (λ e. other R.Late (omega arith))
     (λ e. each Served _ _ _ (λ e. other R.Conflict (omega arith))

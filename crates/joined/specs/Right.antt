@@ -3,18 +3,15 @@ use Prim.Native.Nat.{ℕ, zero, suc, _+_, _-_, _≤_, _<_}
 use native.Mathlib.Omega.{arith}
 use mathlib.Core.Path.{_≡_, refl, sym, ap, subst, _∙_}
 use mathlib.Core.Bool.{Bool, true, false, true≢false}
-use mathlib.Core.Logic.{⊎-elim}
 use mathlib.Core.Option.{Option, none, some}
 use mathlib.Core.List.{List, _++_}
 use lib.ListN.{length, drop}
 use lib.Seq.{sets, sets-eq}
-use Rattle.laws.specs.Rows.{_⇒_⁏_, _=?_, _<?_, each, yes, no, eq, ne, lt-of, ge-of, and-of, eq-of}
+use Rattle.laws.specs.Rows.{_=?_, each, yes, no, eq, ne, lt-of, ge-of, and-of, eq-of}
 use Rattle.paper.specs.Limits.{sampleMost}
 use Rattle.paper.specs.Words.{numberOf}
 use Rattle.paper.specs.declared.Refusal.{Refusal}
 use Rattle.paper.specs.declared.Refusal.the-variants as R
-use Rattle.paper.specs.declared.Outcome.{Outcome}
-use Rattle.paper.specs.declared.Outcome.the-variants as O
 use Rattle.joining.specs.Joining.{Piece, kinds, together, stringOf, ordered, sound}
 use Rattle.unit.specs.declared.Whole as W
 use Rattle.unit.specs.declared.Part as P
@@ -31,10 +28,14 @@ use Rattle.sample.specs.Sound.{sound-of}
 use Rattle.style.specs.Store.{noted}
 use Rattle.style.specs.Store as S
 use Rattle.desk.specs.declared.Shares.{Shares}
-use Rattle.desk.specs.Desk.{Own, After, Given, refuse, facts, wholeTaken, sampleOf, conflicts, completed, joining, descriptionTaken, taken, received, givenUp}
+use Rattle.desk.specs.Desk.{Own, After, Given, refuse, facts, wholeTaken, sampleOf, conflicts, completed, joining, descriptionTaken}
+use Rattle.desk.specs.Desk.{taken, received, givenUp}
+use Rattle.desk.specs.Effects.{not-ten}
 use Rattle.memory.specs.Relay.{ordered as in-turn, yielded}
-use Rattle.joined.specs.Ledger.{Entry, Parts, adding, entered, enteredBy, givenUpBy, isEntered, enteredPiece, inThisOrder, different, Complete, Tell, KeptSays, JoinedSays, SaysPart, NoPart, SaysUnit}
-use Rattle.joined.specs.Tallies.{Tallies, closed-tallies, sample-tallies, missing-different, none-missing, pieces-in-order, total-stays, sdur-stays, not-entered, kept-tallies}
+use Rattle.joined.specs.Ledger.{Entry, Parts, adding, entered, enteredBy, givenUpBy, isEntered, enteredPiece, inThisOrder}
+use Rattle.joined.specs.Ledger.{different, Complete, Tell, KeptSays, JoinedSays, SaysPart, NoPart, SaysUnit}
+use Rattle.joined.specs.Tallies.{Tallies, closed-tallies, sample-tallies, missing-different, none-missing, pieces-in-order}
+use Rattle.joined.specs.Tallies.{total-stays, sdur-stays, not-entered, kept-tallies}
 
 -- ---- what a complete place that tallies says
 module _ (p : Place) (E : Parts) (t : Tallies p E) (TOTAL : ℕ) (e : p .total ≡ TOTAL) where
@@ -194,8 +195,7 @@ module _ (h : Shares) (s : Own) (desk time : ℕ) (rest : List ℕ) (E : Parts) 
   unfolding descriptionTaken
   taken-right room used End k c = (tt, tp)
   taken-right room used (Skipped t) k c = (tt, tp)
-  taken-right room used (Refused r) k c =
-      (λ z. ⊎-elim (λ e. omega (arith, ap numberOf e)) (λ e. omega (arith, ap numberOf e)) k, tp)
+  taken-right room used (Refused r) k c = (not-ten r k, tp)
   taken-right room used (Whole w) k c = whole-right used w (dataOf rest (Whole w))
   taken-right room used (Part x) k c = part-right s time used _ E x (dataOf rest (Part x)) h desk tp c room
   taken-right room used (Description w) k c = (noted-no-part (s .store) _ (w .sidx) (dataOf rest (Description w)), tp)

@@ -42,6 +42,7 @@ number-most R.Parts = omega arith
 number-most R.Payload = omega arith
 number-most R.Box = omega arith
 number-most R.Book = omega arith
+number-most R.IllFormed = omega arith
 
 outcome-most : (o : Outcome) → Brief o → length (outcomeText o) ≤ 11
 unfolding outcomeText
@@ -74,7 +75,7 @@ pub record OneCall (rest : List ℕ) (d : Done) : Type 0 where
 one-call : (s : Tables) (time : ℕ) (rest : List ℕ) → Good 1 s → time < 4294967296 → 0 < length rest → OneCall rest (called s time rest)
 one-call s time rest g t l =
     let o = ownOf 1 s 0 time (replicate sampleMost 0) in
-    let m = modest (sharesOf 1 0 (placesOf 1 s)) o 0 time rest (g .well _ .made .short) t in
+    let m = modest (sharesOf 1 0 (placesOf 1 s)) o 0 time rest (g .well _ .sane .made .short) t in
     rw (called-is s time rest g) (record {
       next = m .next;
       words = m .words;

@@ -2,9 +2,8 @@
 -- not of TYPE 1 to 4 leaves the sample of its time as it was. Assumes nothing.
 use Prim.Native.Nat.{ℕ, _<_}
 use native.Mathlib.Omega.{arith}
-use mathlib.Core.Path.{_≡_, refl, sym, ap, subst, _∙_}
+use mathlib.Core.Path.{_≡_, refl, sym, subst, _∙_}
 use mathlib.Core.Bool.{Bool, true, false, true≢false}
-use mathlib.Core.Logic.{⊎-elim}
 use mathlib.Core.List.{List, []}
 use lib.ListN.{length, length-set}
 use lib.Seq.{getD-set-same, getD-set-other}
@@ -25,6 +24,7 @@ use Rattle.style.specs.Store.{noted}
 use Rattle.style.specs.Store as S
 use Rattle.desk.specs.declared.Shares.{Shares}
 use Rattle.desk.specs.Desk.{Own, After, own, inUse, newestOf, finish, wholeTaken, completed, joining, descriptionTaken, taken, received, Given, givenUp}
+use Rattle.desk.specs.Effects.{not-ten}
 use Rattle.memory.specs.Relay.{ordered, yielded}
 use Rattle.good.specs.View.{View, ownIn, receives, givesUp}
 use Rattle.once.specs.Ours.{bears, offers}
@@ -88,9 +88,6 @@ noted-idle store newest sidx d =
   where
     I : S.After → Type 0
     I a = Idle (a .answer .outcome)
-
-not-ten : (r : Refusal) → Known (Refused r) → numberOf r ≡ 10 → ⊥
-not-ten r k h = ⊎-elim (λ e. omega (arith, ap numberOf e)) (λ e. omega (arith, ap numberOf e)) k
 
 -- what a call leaves of the sample of its time, where its first unit has no TYPE 1 to 4
 pub record Idles (s : Own) (at : ℕ) (a : After) : Type 0 where

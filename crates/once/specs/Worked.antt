@@ -15,13 +15,15 @@ use Rattle.paper.specs.declared.Outcome.{Outcome}
 use Rattle.paper.specs.declared.Outcome.the-variants as O
 use Rattle.text.specs.Chart.{chart, within, follows, charted}
 use Rattle.text.specs.Unicode.{character, wellFormed, wellWithin, reach, reachWithin}
-use Rattle.unit.specs.Layout.{readOf, broken, judged, fieldsOf, least, badPart, badWhole}
+use Rattle.unit.specs.Layout.{readOf, broken, judged, fieldsOf, least, badPart, badWhole, spelled, misspelled}
 use Rattle.joining.specs.Joining as J
 use Rattle.unit.specs.Head.{partHead}
 use Rattle.writer.specs.Cut.{cuts, cutsWithin, modified, pieces}
-use Rattle.writer.specs.Write.{Caption, caption, long, count, partUnit, payloadUnit, payloadData, payload, unsized, illFormed, unwritable, uncut, written}
+use Rattle.writer.specs.Write.{Caption, caption, long, count, partUnit, payloadUnit, payloadData, payload, unsized, illFormed}
+use Rattle.writer.specs.Write.{unwritable, uncut, written}
 use Rattle.writer.specs.declared.Written.the-variants.{Payload}
-use Rattle.sample.specs.Place.{bare, outside, has, agrees, stands, repeats, oversize, toldOf, telling, laid, kept, missing, piecesIn, piecesOf}
+use Rattle.sample.specs.Place.{bare, outside, has, agrees, stands, repeats, oversize, toldOf, telling, laid, kept, missing, piecesIn}
+use Rattle.sample.specs.Place.{piecesOf}
 use Rattle.finished.specs.Times.{among, movedRow, markedRow, markedUsed}
 use Rattle.desk.specs.declared.GivenUp.the-variants.{Freed}
 use Rattle.desk.specs.declared.GivenUp.the-variants as G
@@ -85,16 +87,19 @@ abc = caption 0 128 100 (0x61 ∷ 0x62 ∷ 0x63 ∷ []) blnk
 
 two-payloads : (count hi 19 ≡ 2) × (payload hi 19 1 ≡ first) × (payload hi 19 2 ≡ second)
     × (written hi 19 1 (replicate 19 0) .answer ≡ Payload 12 2)
-unfolding count payloadUnit payloadData partUnit partHead written uncut unwritable illFormed unsized wellFormed wellWithin long pieces modified cuts cutsWithin reach reachWithin character chart within follows charted _⇒_⁏_ _<?_ _=?_
+unfolding count payloadUnit payloadData partUnit partHead written uncut unwritable illFormed unsized wellFormed wellWithin long pieces
+    modified cuts cutsWithin reach reachWithin character chart within follows charted _⇒_⁏_ _<?_ _=?_
 two-payloads = (refl, refl, refl, refl)
 
 one-payload : (count plain 14 ≡ 1) × (payload plain 14 1 ≡ all) × (written plain 14 1 (replicate 14 0) .answer ≡ Payload 11 1)
-unfolding count payloadUnit payloadData partUnit partHead written uncut unwritable illFormed unsized wellFormed wellWithin long pieces modified cuts cutsWithin reach reachWithin character chart within follows charted _⇒_⁏_ _<?_ _=?_
+unfolding count payloadUnit payloadData partUnit partHead written uncut unwritable illFormed unsized wellFormed wellWithin long pieces
+    modified cuts cutsWithin reach reachWithin character chart within follows charted _⇒_⁏_ _<?_ _=?_
 one-payload = (refl, refl, refl)
 
 three-payloads : (count abc 17 ≡ 3) × (payload abc 17 1 ≡ letters) × (payload abc 17 2 ≡ blink) × (payload abc 17 3 ≡ blinked)
     × (written abc 17 1 (replicate 17 0) .answer ≡ Payload 13 3)
-unfolding count payloadUnit payloadData partUnit partHead written uncut unwritable illFormed unsized wellFormed wellWithin long pieces modified cuts cutsWithin reach reachWithin character chart within follows charted _⇒_⁏_ _<?_ _=?_
+unfolding count payloadUnit payloadData partUnit partHead written uncut unwritable illFormed unsized wellFormed wellWithin long pieces
+    modified cuts cutsWithin reach reachWithin character chart within follows charted _⇒_⁏_ _<?_ _=?_
 three-payloads = (refl, refl, refl, refl, refl)
 
 -- bytes that are a payload, and what follows them, begin with it
@@ -136,7 +141,11 @@ pub record Meets (c : Caption) (M : ℕ) (xs : List Call) : Type 0 where
   pub soon : AllSoon c M 5 start xs (alone freshView xs)
 
 meets : (desk : ℕ) → Meets hi 19 (calls desk) × Meets plain 14 (whole-calls desk) × Meets abc 17 (three-calls desk)
-unfolding _⇒_⁏_ _<?_ _=?_ readOf broken judged fieldsOf least badPart badWhole bare outside has agrees stands repeats oversize toldOf telling laid kept missing piecesIn piecesOf among laterPart sampleOf conflicts six usedUp completed joining wholeTaken received ordered ones movedRow markedRow markedUsed J.laters J.going J.ordered J.sound flatten asksPart same givenUp yielded awaited count long pieces modified cuts cutsWithin reach reachWithin character chart within follows charted
+unfolding _⇒_⁏_ _<?_ _=?_ readOf broken judged spelled misspelled fieldsOf least badPart badWhole bare outside has agrees stands repeats
+    oversize toldOf telling laid kept missing piecesIn piecesOf among laterPart sampleOf conflicts six usedUp completed joining
+    wholeTaken received ordered ones movedRow markedRow markedUsed J.laters J.going J.ordered J.sound flatten asksPart same givenUp
+    yielded awaited count long pieces modified cuts cutsWithin reach reachWithin wellFormed wellWithin character chart within
+    follows charted
 meets desk = (
   record {
     frugal = (idle, (λ e. omega arith, (idle, (idle, (idle, (idle, (idle, tt)))))));
@@ -259,5 +268,8 @@ hears x = answered (says 12 5 x) blank
 
 -- fifteen samples later it is late, and sixteen later it opens the sample anew
 pub sharp-edge : (getD (alone freshView (run-with 15)) 17 (shown []) ≡ hears (O.Refused R.Late)) × (getD (alone freshView (run-with 16)) 18 (shown []) ≡ hears (O.Kept 1))
-unfolding _⇒_⁏_ _<?_ _=?_ readOf broken judged fieldsOf least badPart badWhole bare outside has agrees stands repeats oversize toldOf telling laid kept missing piecesIn piecesOf among laterPart sampleOf conflicts six usedUp completed joining wholeTaken received ordered ones movedRow markedRow markedUsed J.laters J.going J.ordered J.sound flatten
+unfolding _⇒_⁏_ _<?_ _=?_ readOf broken judged spelled misspelled fieldsOf least badPart badWhole bare outside has agrees stands repeats
+    oversize toldOf telling laid kept missing piecesIn piecesOf among laterPart sampleOf conflicts six usedUp completed joining
+    wholeTaken received ordered ones movedRow markedRow markedUsed J.laters J.going J.ordered J.sound flatten wellFormed wellWithin
+    character chart within follows charted
 sharp-edge = (refl, refl)

@@ -3,7 +3,8 @@
 use Prim.Native.Nat.{ℕ}
 use mathlib.Core.List.{List, [], _∷_}
 use Rattle.paper.specs.declared.Refusal.{Refusal}
-use Rattle.paper.specs.declared.Refusal.the-variants.{Desk, Output, Frame, Fields, Size, Late, Conflict, Six, Common, Spoiled, NotOpen, Writer, Parts, Payload, Box, Book}
+use Rattle.paper.specs.declared.Refusal.the-variants.{Desk, Output, Frame, Fields, Size, Late, Conflict, Six, Common, Spoiled}
+use Rattle.paper.specs.declared.Refusal.the-variants.{NotOpen, Writer, Parts, Payload, Box, Book, IllFormed}
 use Rattle.paper.specs.declared.Outcome.{Outcome}
 use Rattle.paper.specs.declared.Outcome.the-variants.{End, Whole, Joined, Kept, Repeat, Described, Skipped, Refused}
 use Rattle.paper.specs.declared.Facts.{Facts}
@@ -37,6 +38,8 @@ numberOf Parts = 13
 numberOf Payload = 14
 numberOf Box = 15
 numberOf Book = 16
+-- a string that is not well-formed
+numberOf IllFormed = 17
 
 -- the outcomes in the paper's order
 abbrev pub kindOf : Outcome → ℕ

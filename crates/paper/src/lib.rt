@@ -22,6 +22,7 @@ pub enum Refusal {
     Payload,
     Box,
     Book,
+    IllFormed,
 }
 
 // The name of a sample: its desk and its running time.
@@ -80,6 +81,7 @@ pub fn number(r: Refusal) -> usize
         Refusal::Payload => 14,
         Refusal::Box => 15,
         Refusal::Book => 16,
+        Refusal::IllFormed => 17,
     }
 }
 

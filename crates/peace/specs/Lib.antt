@@ -2,3 +2,4 @@ pub mod Run
 pub mod Alone
 pub mod Peace
 pub mod Exactly
+pub mod Always

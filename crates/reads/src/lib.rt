@@ -1,4 +1,4 @@
-// Reading the unit at the front of a rest: the order of answers, with the limits of refusal 4.
+// Reading the unit at the front of a rest: the order of answers, with the limits of refusal 4 and, behind them, 17.
 use paper::Refusal;
 use paper::limits::IN_BAND;
 use paper::limits::RESERVED;
@@ -8,7 +8,7 @@ use unit::Reading;
 use unit::Unit;
 use unit::Whole;
 ghost use mathlib.Core.Path.{_≡_};
-ghost use Rattle.unit.specs.Layout.{least, badWhole, badPart, badDescription, badFields, broken, judged, readOf};
+ghost use Rattle.unit.specs.Layout.{least, badWhole, badPart, badDescription, badFields, broken, judged, spelled, readOf};
 
 fn least_len(kind: usize) -> usize
     ensures { λ r. ⌜ r ≡ least kind ⌝ }
@@ -112,6 +112,15 @@ fn judge(kind: usize, len: usize, x: Unit) -> Unit
     x
 }
 
+fn spell(rest: &[u8], x: Unit) -> Unit
+    ensures { λ r. ⌜ r ≡ spelled (now (rest .entry)) x ⌝ }
+{
+    if texts::misspelled(rest, x) {
+        return Unit::Refused(Refusal::IllFormed);
+    }
+    x
+}
+
 // Reads the unit at the front of the rest.
 pub fn read(rest: &[u8]) -> Reading
     ensures { λ r. ⌜ r ≡ readOf (now (rest .entry)) ⌝ }
@@ -135,6 +144,6 @@ pub fn read(rest: &[u8]) -> Reading
     let x = judge(kind, len, fields::read_fields(rest, head / 128, kind, len));
     Reading {
         used: 1 + len,
-        unit: x,
+        unit: spell(rest, x),
     }
 }

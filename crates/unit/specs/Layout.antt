@@ -1,14 +1,15 @@
--- Reading a unit: document 01's table of layouts, its limits of refusal 4, and its order of answers.
+-- Reading a unit: document 01's table of layouts, its limits of refusal 4, refusal 17 of a unit's text, and the order of answers.
 -- Assumes nothing.
 use Prim.Native.Nat.{ℕ, _+_, _-_, _/_, _%_}
 use mathlib.Core.List.{List, []}
-use mathlib.Core.Bool.{Bool, false}
-use lib.ListN.{length}
+use mathlib.Core.Bool.{Bool, false, not}
+use lib.ListN.{length, take}
 use Rattle.laws.specs.Rows.{_⇒_⁏_, _or_, _<?_, _=?_}
 use Rattle.laws.specs.Region.{part}
 use Rattle.octets.specs.Be.{u8At, u16At, u24At}
+use Rattle.text.specs.Unicode.{wellFormed}
 use Rattle.paper.specs.Limits.{reserved, inBand}
-use Rattle.paper.specs.declared.Refusal.the-variants.{Frame, Fields}
+use Rattle.paper.specs.declared.Refusal.the-variants.{Frame, Fields, IllFormed}
 use Rattle.unit.specs.declared.Whole as W
 use Rattle.unit.specs.declared.Part as P
 use Rattle.unit.specs.declared.Description as D
@@ -86,6 +87,37 @@ badFields (Whole w) = badWhole w
 badFields (Part w) = badPart w
 badFields (Description w) = badDescription w
 
+-- ---- a unit's data in the rest that it was read from
+abbrev pub dataOf : List ℕ → Unit → List ℕ
+dataOf s End = []
+dataOf s (Skipped t) = []
+dataOf s (Refused r) = []
+dataOf s (Whole w) = part (w .start) (w .len) s
+dataOf s (Part w) = part (w .start) (w .len) s
+dataOf s (Description w) = part (w .start) (w .len) s
+
+-- ---- refusal 17, of a unit's text
+-- which of its data d are text: of TYPE 1 the first TLEN bytes, of TYPE 2 all; no other TYPE has text
+abbrev pub textOf : Unit → (d : List ℕ) → List ℕ
+textOf End d = []
+textOf (Skipped t) d = []
+textOf (Refused r) d = []
+textOf (Whole w) d = take (w .tlen) d
+textOf (Part w) d = w .kind =? 2 ⇒ d ⁏ []
+textOf (Description w) d = []
+
+-- its U, in which that has to be well-formed
+abbrev pub encodingOf : Unit → ℕ
+encodingOf End = 0
+encodingOf (Skipped t) = 0
+encodingOf (Refused r) = 0
+encodingOf (Whole w) = w .u
+encodingOf (Part w) = w .u
+encodingOf (Description w) = 0
+
+unfoldable pub misspelled : List ℕ → Unit → Bool
+misspelled s x = not (wellFormed (encodingOf x) (textOf x (dataOf s x)))
+
 -- ---- the order of answers
 abbrev pub reading : ℕ → Unit → Reading
 reading used x = record { used = used; unit = x }
@@ -101,18 +133,21 @@ judged TYPE LEN x =
     ⁏ badFields x ⇒ Refused Fields
     ⁏ x
 
--- byte 0 is U in the top bit, four R bits that are not read, TYPE in the low three
+-- byte 0 is U in the top bit, four R bits that are not read, TYPE in the low three; LEN stands behind it
+abbrev pub fieldsAt : List ℕ → Unit
+fieldsAt s = fieldsOf s (u8At s 0 / 128) (u8At s 0 % 8) (u16At s 1)
+
+abbrev pub judgedOf : List ℕ → Unit
+judgedOf s = judged (u8At s 0 % 8) (u16At s 1) (fieldsAt s)
+
+-- x is what 4 let through, or its refusal
+unfoldable pub spelled : List ℕ → Unit → Unit
+spelled s x =
+    misspelled s x ⇒ Refused IllFormed
+    ⁏ x
+
 unfoldable pub readOf : List ℕ → Reading
 readOf s =
     length s =? 0 ⇒ reading 0 End
     ⁏ broken s ⇒ reading (length s) (Refused Frame)
-    ⁏ reading (1 + u16At s 1) (judged (u8At s 0 % 8) (u16At s 1) (fieldsOf s (u8At s 0 / 128) (u8At s 0 % 8) (u16At s 1)))
-
--- a unit's data in the rest that it was read from
-abbrev pub dataOf : List ℕ → Unit → List ℕ
-dataOf s End = []
-dataOf s (Skipped t) = []
-dataOf s (Refused r) = []
-dataOf s (Whole w) = part (w .start) (w .len) s
-dataOf s (Part w) = part (w .start) (w .len) s
-dataOf s (Description w) = part (w .start) (w .len) s
+    ⁏ reading (1 + u16At s 1) (spelled s (judgedOf s))

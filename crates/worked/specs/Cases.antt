@@ -12,23 +12,26 @@ use Rattle.laws.specs.Rows.{_⇒_⁏_, _<?_, _=?_, or-none}
 use Rattle.paper.specs.declared.Refusal.the-variants as R
 use Rattle.paper.specs.declared.Outcome.{Outcome}
 use Rattle.paper.specs.declared.Outcome.the-variants as O
-use Rattle.text.specs.Chart.{chart, within, follows, charted}
+use Rattle.text.specs.Chart.{chart, within, follows, charted, unitAt, paired}
 use Rattle.text.specs.Unicode.{character, wellFormed, wellWithin, reach, reachWithin}
-use Rattle.unit.specs.Layout.{readOf, broken, judged, fieldsOf, least, badPart, badWhole}
+use Rattle.unit.specs.Layout.{readOf, broken, judged, fieldsOf, least, badPart, badWhole, spelled, misspelled}
 use Rattle.unit.specs.Head.{partHead}
 use Rattle.joining.specs.Joining as J
-use Rattle.sample.specs.Place.{bare, outside, has, agrees, stands, repeats, oversize, toldOf, telling, laid, kept, missing, piecesIn, piecesOf}
+use Rattle.sample.specs.Place.{bare, outside, has, agrees, stands, repeats, oversize, toldOf, telling, laid, kept, missing, piecesIn}
+use Rattle.sample.specs.Place.{piecesOf}
 use Rattle.finished.specs.Times.{among, markedRow, markedUsed}
-use Rattle.desk.specs.Desk.{says, facts, laterPart, sampleOf, conflicts, six, usedUp, wholeTaken, completed, joining, received}
+use Rattle.desk.specs.declared.GivenUp.the-variants as G
+use Rattle.desk.specs.Desk.{says, facts, laterPart, sampleOf, conflicts, six, usedUp, wholeTaken, completed, joining, received, givenUp}
 use Rattle.writer.specs.declared.Written.{Written}
 use Rattle.writer.specs.declared.Written.the-variants as W
 use Rattle.writer.specs.Cut.{cuts, cutsWithin, modified, pieces}
-use Rattle.writer.specs.Write.{Caption, caption, long, count, partUnit, payloadData, payloadUnit, unsized, illFormed, unwritable, uncut, after, written}
+use Rattle.writer.specs.Write.{Caption, caption, long, count, partUnit, payloadData, payloadUnit, unsized, illFormed, unwritable, uncut}
+use Rattle.writer.specs.Write.{after, written}
 use Rattle.memory.specs.declared.Started.the-variants.{Ready}
-use Rattle.memory.specs.Relay.{Tables, standsAt, improper, stranger, short, ownMarks, setUp, ordered, receivedAmong}
+use Rattle.memory.specs.Relay.{Tables, standsAt, improper, stranger, short, ownMarks, setUp, ordered, receivedAmong, yielded, givenUpAmong}
 use Rattle.good.specs.Good.{ready-exactly}
 use Rattle.good.specs.Fresh.{Exact, exactTables, set-up-exact}
-use Rattle.peace.specs.Run.{Call, receive, Got, answered, run}
+use Rattle.peace.specs.Run.{Call, receive, give-up, Got, answered, released, run}
 use Rattle.worked.specs.Descriptions.{blankOutput, describes, describes-gets, Case9, describing, then-74, then-75}
 
 -- ---- what a case says
@@ -146,6 +149,34 @@ case-12 =
 abbrev case-12-refused : Case
 case-12-refused = writes 61 14 1 (W.Refused R.Parts) lentOutput
 
+-- ---- request 1 of document 02
+-- SDUR 9, TLEN 1,025 and as many bytes FF, at time 6: 17, before 5; the unit's bytes are used, and the time stays
+abbrev case-17-long : Case
+case-17-long =
+    plays 1
+    (at 0 6 (0x01 ∷ 0x04 ∷ 0x09 ∷ 0x80 ∷ 0x00 ∷ 0x00 ∷ 0x09 ∷ 0x04 ∷ 0x01 ∷ replicate 1025 0xFF) ∷ [])
+    (hears 1034 6 (O.Refused R.IllFormed) ∷ [])
+
+-- a part of two, at time 5, whose data is these bytes of SLEN 3; the second would add its SDUR
+abbrev euro : (LEN TOTAL-THIS : ℕ) → List ℕ → Call
+euro LEN TOTAL-THIS d = at 0 5 (0x02 ∷ 0x00 ∷ LEN ∷ TOTAL-THIS ∷ 0x00 ∷ 0x00 ∷ 0x64 ∷ 0x80 ∷ 0x00 ∷ 0x03 ∷ d)
+
+-- the euro sign cut inside: each part is judged by itself, so both are 17, and nothing is open
+abbrev case-17-halves : Case
+case-17-halves =
+    plays 1 (euro 0x0B 0x21 (0xE2 ∷ 0x82 ∷ []) ∷ euro 0x0A 0x22 (0xAC ∷ []) ∷ give-up 0 5 ∷ [])
+    (hears 12 5 (O.Refused R.IllFormed) ∷ hears 11 5 (O.Refused R.IllFormed) ∷ released (G.Refused R.NotOpen) ∷ [])
+
+-- a bad string at a finished time is 17 and not late; with U 1 the same letters are an odd length; behind TLEN nothing is looked at
+abbrev one : (head TLEN : ℕ) → List ℕ
+one head TLEN = head ∷ 0x00 ∷ 0x09 ∷ 0x80 ∷ 0x00 ∷ 0x00 ∷ 0x01 ∷ 0x00 ∷ TLEN ∷ 0xFF ∷ []
+
+abbrev case-17-late : Case
+case-17-late =
+    plays 1 (at 0 7 (one 0x01 0) ∷ at 0 7 (one 0x01 0) ∷ at 0 7 (one 0x01 1) ∷ at 0 8 (one 0x81 1) ∷ [])
+    (handed 10 8 (O.Whole (facts 7 0 128 1 0 1)) (0xFF ∷ []) ∷ hears 10 8 (O.Refused R.Late) ∷ hears 10 7 (O.Refused R.IllFormed)
+    ∷ hears 10 8 (O.Refused R.IllFormed) ∷ [])
+
 abbrev pub cases : List Case
 cases =
     case-1 ∷ case-2 ∷ case-3 ∷ case-4 ∷ case-5 ∷ case-6 ∷ case-7-8 ∷ case-8-7
@@ -153,6 +184,7 @@ cases =
     ∷ case-10
     ∷ case-11 1 0x21 ∷ case-11 2 0x22 ∷ case-11-whole
     ∷ case-12 ∷ case-12-refused
+    ∷ case-17-long ∷ case-17-halves ∷ case-17-late
     ∷ []
 
 -- ---- what the rules compute to in the memory that set-up makes
@@ -174,11 +206,11 @@ so (writes many M k w out) (inl e) = e
 
 -- cases 1 and 5, which no relay plays that refuses everything or has a constant answer
 one-and-five : Computes case-1 × Computes case-5
-unfolding _⇒_⁏_ _<?_ _=?_ readOf broken judged fieldsOf least badPart badWhole bare outside has agrees stands repeats oversize toldOf
-    telling laid kept missing piecesIn piecesOf among laterPart sampleOf conflicts six usedUp wholeTaken completed joining received
-    standsAt improper stranger short ownMarks ordered receivedAmong ones markedRow markedUsed J.laters J.going J.ordered J.sound flatten
-    partHead written count uncut unwritable illFormed unsized wellFormed wellWithin long partUnit payloadData payloadUnit pieces
-    modified cuts cutsWithin reach reachWithin character chart within follows charted
+unfolding _⇒_⁏_ _<?_ _=?_ readOf broken judged spelled misspelled fieldsOf least badPart badWhole bare outside has agrees stands repeats
+    oversize toldOf telling laid kept missing piecesIn piecesOf among laterPart sampleOf conflicts six usedUp wholeTaken completed
+    joining received standsAt improper stranger short ownMarks ordered receivedAmong ones markedRow markedUsed J.laters J.going
+    J.ordered J.sound flatten partHead written count uncut unwritable illFormed unsized wellFormed wellWithin long partUnit
+    payloadData payloadUnit pieces modified cuts cutsWithin reach reachWithin character chart within follows charted
 one-and-five = (refl, refl)
 
 -- case 9 by laws, for its stores are not computed; `describing` says the same for any memory that is long enough
@@ -195,11 +227,12 @@ all-so [] e = tt
 all-so (c ∷ cs) e = (so c (e .0), all-so cs (e .1))
 
 each-holds : AllHold cases
-unfolding _⇒_⁏_ _<?_ _=?_ readOf broken judged fieldsOf least badPart badWhole bare outside has agrees stands repeats oversize toldOf
-    telling laid kept missing piecesIn piecesOf among laterPart sampleOf conflicts six usedUp wholeTaken completed joining received
-    standsAt improper stranger short ownMarks ordered receivedAmong ones markedRow markedUsed J.laters J.going J.ordered J.sound flatten
-    partHead written count uncut unwritable illFormed unsized wellFormed wellWithin long partUnit payloadData payloadUnit pieces
-    modified cuts cutsWithin reach reachWithin character chart within follows charted
+unfolding _⇒_⁏_ _<?_ _=?_ readOf broken judged spelled misspelled fieldsOf least badPart badWhole bare outside has agrees stands repeats
+    oversize toldOf telling laid kept missing piecesIn piecesOf among laterPart sampleOf conflicts six usedUp wholeTaken completed
+    joining received standsAt improper stranger short ownMarks ordered receivedAmong ones markedRow markedUsed J.laters J.going
+    J.ordered J.sound flatten partHead written count uncut unwritable illFormed unsized wellFormed wellWithin long partUnit
+    payloadData payloadUnit pieces modified cuts cutsWithin reach reachWithin character chart within follows charted unitAt paired
+    givenUp yielded givenUpAmong
 each-holds = (
   inl (one-and-five .0),
   (
@@ -220,7 +253,7 @@ each-holds = (
                   inr (case-9-holds 74 [] then-74),
                   (
                     inr (case-9-holds 75 (0x41 ∷ []) then-75),
-                    (inl refl, (inl refl, (inl refl, (inl refl, (inl refl, (inl refl, tt)))))),
+                    (inl refl, (inl refl, (inl refl, (inl refl, (inl refl, (inl refl, (inl refl, (inl refl, (inl refl, tt))))))))),
                   ),
                 ),
               ),

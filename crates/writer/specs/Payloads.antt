@@ -8,15 +8,17 @@ use mathlib.Core.Bool.{Bool, true, false}
 use mathlib.Core.Logic.{_⊎_, inl, inr}
 use mathlib.Core.List.{List, [], _++_}
 use lib.ListN.{length, getD, length-append}
+use lib.Seq.{take-at}
 use Rattle.laws.specs.Rows.{each, ge-of, ne-of, or-none}
 use Rattle.laws.specs.Rows as Rows
 use Rattle.paper.specs.Limits.{partsMost}
 use Rattle.joining.specs.Joining.{piece}
-use Rattle.text.specs.Strings.{well-formed}
+use Rattle.text.specs.Strings.{well-formed, empty-well}
 use Rattle.unit.specs.declared.Unit.{Unit}
 use Rattle.unit.specs.declared.Unit.the-variants.{Part}
 use Rattle.unit.specs.Layout.{stringPart, modifiersPart, reading, readOf, dataOf}
 use Rattle.unit.specs.Head.{string-head, modifiers-head}
+use Rattle.unit.specs.Text.{string-text, modifiers-text}
 use Rattle.unit.specs.Again.{Proper, whole-unit, string-unit, modifiers-unit, bytesOf, unit-again, data-again}
 use Rattle.writer.specs.Cut.{strings, blocks}
 use Rattle.writer.specs.Cutting.{string-each, block-each, strings-some}
@@ -39,7 +41,12 @@ module _ (c : Caption) (M room : ℕ) (v : Writable c M room) where
   whole-sent l =
       let n = length-append (c .string) (c .modifiers) in
       record {
-        proper = whole-unit {TLEN = length (c .string)} {d = sample c} (v .coded) (v .index) (v .lasting) (omega arith) (omega (arith, v .small));
+        proper = record {
+          fit =
+              whole-unit {TLEN = length (c .string)} {d = sample c} (v .coded) (v .index) (v .lasting) (omega arith)
+              (omega (arith, v .small));
+          text = rw (take-at (c .string) (c .modifiers) (length (c .string)) refl) (well-formed (c .U) (c .string) (v .well));
+        };
         size = omega (arith, ge-of _ _ l);
       }
 
@@ -53,7 +60,12 @@ module _ (c : Caption) (M room : ℕ) (v : Writable c M room) where
         let z : length (bytesOf (Part w) d) ≤ M = rw (string-head w refl) (omega (arith, p .fits, v .least)) in
         rw (Returns.string-unit c n k d)
         (record {
-          proper = string-unit {SLEN = length (sample c)} {d = d} (v .coded) some within few (v .lasting) (v .index) (omega (arith, v .small)) (p .some) (omega (arith, p .fits, v .most));
+          proper = record {
+            fit =
+                string-unit {SLEN = length (sample c)} {d = d} (v .coded) some within few (v .lasting) (v .index)
+                (omega (arith, v .small)) (p .some) (omega (arith, p .fits, v .most));
+            text = rw (string-text w d refl) (p .well);
+          };
           size = z;
         })
 
@@ -66,7 +78,10 @@ module _ (c : Caption) (M room : ℕ) (v : Writable c M room) where
         let z : length (bytesOf (Part w) d) ≤ M = rw (modifiers-head w (blockType-not j)) (omega (arith, p .1, v .least)) in
         rw (Returns.block-unit c n k (blockType j) d (blockType-not j))
         (record {
-          proper = modifiers-unit {d = d} (blockType-is j) some within few (v .lasting) (p .0) (omega (arith, p .1, v .most));
+          proper = record {
+            fit = modifiers-unit {d = d} (blockType-is j) some within few (v .lasting) (p .0) (omega (arith, p .1, v .most));
+            text = rw (modifiers-text w d (blockType-not j)) (empty-well 0 [] refl);
+          };
           size = z;
         })
 
@@ -123,4 +138,4 @@ module _ (c : Caption) (M room : ℕ) (v : Writable c M room) where
       payload-read more = unit-again (payloadUnit c M k) (payloadData c M k) more (sent .proper)
 
       pub payload-data : (more : List ℕ) → dataOf (payload c M k ++ more) (payloadUnit c M k) ≡ payloadData c M k
-      payload-data more = data-again (payloadUnit c M k) (payloadData c M k) more (sent .proper)
+      payload-data more = data-again (payloadUnit c M k) (payloadData c M k) more (sent .proper .fit)

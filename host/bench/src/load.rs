@@ -32,13 +32,17 @@ const HELD: u32 = 4_000_000_000;
 /// Rounds of the hostile mix are this many units.
 const MIX: usize = 512;
 
-fn payloads(len: usize, limit: usize) -> Vec<Vec<u8>> {
-    let string = vec![b'a'; len];
+/// What the strings repeat: letters of one byte and of two.
+const ASCII: &str = "a";
+const GREEK: &str = "αβγδεζηθικ";
+
+fn payloads(text: &str, len: usize, limit: usize) -> Vec<Vec<u8>> {
+    let string = text.repeat(len / text.len());
     let caption = Caption {
         u: 0,
         sidx: 128,
         sdur: 1,
-        string: &string,
+        string: string.as_bytes(),
         modifiers: &[],
     };
     Writer::new(limit)
@@ -79,8 +83,17 @@ fn load(name: String, desks: usize, full: bool, round: Vec<Call>, span: u32) -> 
     }
 }
 
-fn whole(len: usize, desks: usize, full: bool) -> Load {
-    let unit = payloads(len, len + 9).remove(0);
+/// What the name of a load says of its text.
+fn mark(text: &str) -> &'static str {
+    if text == GREEK {
+        " Greek"
+    } else {
+        ""
+    }
+}
+
+fn whole(text: &str, len: usize, desks: usize, full: bool) -> Load {
+    let unit = payloads(text, len, len + 9).remove(0);
     let round = (0..desks)
         .map(|desk| Call {
             desk,
@@ -88,12 +101,13 @@ fn whole(len: usize, desks: usize, full: bool) -> Load {
             unit: unit.clone(),
         })
         .collect();
-    load(format!("whole {len}"), desks, full, round, 1)
+    let name = format!("whole {len}{}", mark(text));
+    load(name, desks, full, round, 1)
 }
 
-fn parts(count: usize, backwards: bool, desks: usize, full: bool) -> Load {
+fn parts(text: &str, count: usize, backwards: bool, desks: usize, full: bool) -> Load {
     let len = 900;
-    let mut units = payloads(len, len / count + 10);
+    let mut units = payloads(text, len, len / count + 10);
     let mut way = "forwards";
     if backwards {
         units.reverse();
@@ -107,7 +121,8 @@ fn parts(count: usize, backwards: bool, desks: usize, full: bool) -> Load {
             unit,
         })
         .collect();
-    load(format!("{count} parts {way}"), desks, full, round, 1)
+    let name = format!("{count} parts {way}{}", mark(text));
+    load(name, desks, full, round, 1)
 }
 
 /// A small generator of numbers (xorshift).
@@ -138,8 +153,8 @@ fn damaged(dice: &mut Dice, mut unit: Vec<u8>) -> Vec<u8> {
 /// Captions, parts that open and never finish, styles sent again with other bytes, damage in a half of it.
 fn hostile(desks: usize, full: bool) -> Load {
     let mut dice = Dice(2026);
-    let parts = payloads(60, 30);
-    let whole = payloads(40, 100).remove(0);
+    let parts = payloads(ASCII, 60, 30);
+    let whole = payloads(ASCII, 40, 100).remove(0);
     let style = |n: usize| vec![5, 0, 5, (n % 128) as u8, b'x', (n % 3) as u8];
     let round = (0..MIX)
         .map(|_| {
@@ -170,11 +185,13 @@ pub fn loads() -> Vec<Load> {
     let tables = [(1, false), (1, true), (8, false), (8, true)];
     let mut all = Vec::new();
     for (desks, full) in tables {
-        all.extend([20, 200, 1024].map(|len| whole(len, desks, full)));
+        all.extend([20, 200, 1024].map(|len| whole(ASCII, len, desks, full)));
         for count in [2, 15] {
-            all.extend([false, true].map(|back| parts(count, back, desks, full)));
+            all.extend([false, true].map(|back| parts(ASCII, count, back, desks, full)));
         }
         all.push(hostile(desks, full));
     }
+    all.push(whole(GREEK, 200, 1, false));
+    all.push(parts(GREEK, 2, false, 1, false));
     all
 }

@@ -108,7 +108,7 @@ fn turn(load: &Load, proved: &Library, old: Option<&Library>) -> [Option<f64>; 5
         same("second", timed(load, second)),
         same("rival", timed(load, rival)),
         Some(timed(load, Copied).0),
-        old.and_then(|old| same("old", timed(load, Compiled::fresh(old, desks)))),
+        old.map(|old| timed(load, Compiled::fresh(old, desks)).0),
     ]
 }
 
@@ -123,6 +123,12 @@ fn quickest(load: &Load, proved: &Library, old: Option<&Library>, runs: usize) -
         .expect("there is a run")
 }
 
+/// Whether an old version, which may have other rules, answers the load otherwise.
+fn answers_otherwise(load: &Load, proved: &Library, old: &Library) -> bool {
+    let sum = |library| timed(load, Compiled::fresh(library, load.desks)).1;
+    sum(proved) != sum(old)
+}
+
 /// Measures one load for everyone, and prints its line.
 fn measure(load: &Load, proved: &Library, old: Option<&Library>, runs: usize) {
     let times = quickest(load, proved, old, runs);
@@ -133,12 +139,14 @@ fn measure(load: &Load, proved: &Library, old: Option<&Library>, runs: usize) {
     for other in [times[1], times[2], times[4]].iter().flatten() {
         print!(" {:>8.2}", times[0].unwrap_or(f64::NAN) / other);
     }
-    println!();
+    let otherwise = old.is_some_and(|old| answers_otherwise(load, proved, old));
+    println!("{}", if otherwise { " *" } else { "" });
 }
 
 fn print_times(proved: &Library, old: Option<&Library>, runs: usize) {
     println!("Nanoseconds a unit, the quickest of {runs} runs of about {UNITS} units, all by turns; tables are made anew and");
-    println!("{WARMING} units played before each. The ratios are the proved relay's time to the others'.");
+    println!("{WARMING} units played before each. The ratios are the proved relay's time to the others'. *: an old version that");
+    println!("has other rules answers some of these units otherwise.");
     println!();
     print!("{:<22} n {:<5} {:>6}", "units", "table", "bytes");
     let there = if old.is_some() { 5 } else { 4 };

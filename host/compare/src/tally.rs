@@ -4,7 +4,7 @@ use second::Outcome;
 use std::collections::BTreeMap;
 use std::fmt::{self, Display, Formatter};
 
-const REFUSALS: usize = 16;
+const REFUSALS: usize = 17;
 
 #[derive(Default)]
 pub struct Tally {

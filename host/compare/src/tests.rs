@@ -19,7 +19,15 @@ const CHECK: u8 = 7;
 const STEP: u8 = 8;
 const HEAD: u8 = 9;
 const TOUCHES: u8 = 10;
-const NONE: u8 = 11;
+const WHOLE_UNREAD: u8 = 11;
+const PARTS_UNREAD: u8 = 12;
+const HALF_UNITS: u8 = 13;
+const OTHER_ENCODING: u8 = 14;
+const ADDS_TIME: u8 = 15;
+const LATE_FIRST: u8 = 16;
+const CONFLICT_FIRST: u8 = 17;
+const SIZE_FIRST: u8 = 18;
+const NONE: u8 = 19;
 
 /// The second relay with one mistake.
 struct Wrong<const MISTAKE: u8> {
@@ -48,6 +56,60 @@ impl<const MISTAKE: u8> Wrong<MISTAKE> {
             _ => {}
         }
     }
+
+    /// Reads strings of TYPE 1 and 2 in the encoding that U does not say.
+    fn receive_otherwise(&mut self, name: (usize, u32), rest: &[u8], out: &mut [u8]) -> Answer {
+        let mut rest = rest.to_vec();
+        if rest.first().is_some_and(|first| matches!(first & 7, 1 | 2)) {
+            rest[0] ^= 0x80;
+        }
+        let mut answer = self.second.receive(name.0, name.1, &rest, out);
+        if let Outcome::Whole(facts) | Outcome::Joined(facts) = &mut answer.outcome {
+            facts.u ^= 1;
+        }
+        answer
+    }
+
+    /// What is answered in place of 17, where this mistake makes a difference to it.
+    fn misread(&mut self, name: (usize, u32), unit: &[u8], out: &mut [u8]) -> Option<Answer> {
+        let good = with_zeros(unit);
+        let heard = |relay: &mut Second, out: &mut [u8]| relay.receive(name.0, name.1, &good, out);
+        let would_be = heard(&mut self.second.clone(), &mut [0; 1024]);
+        let lets_through = match MISTAKE {
+            WHOLE_UNREAD => unit[0] & 7 == 1,
+            PARTS_UNREAD => unit[0] & 7 == 2,
+            HALF_UNITS => unit[0] >> 7 == 1 && string(unit).len() % 2 == 1,
+            LATE_FIRST => would_be.outcome == Outcome::Refused(6),
+            CONFLICT_FIRST => would_be.outcome == Outcome::Refused(7),
+            SIZE_FIRST => would_be.outcome == Outcome::Refused(5),
+            _ => false,
+        };
+        if MISTAKE == ADDS_TIME {
+            let outcome = Outcome::Refused(17);
+            return Some(Answer {
+                outcome,
+                ..would_be
+            });
+        }
+        lets_through.then(|| heard(&mut self.second, out))
+    }
+}
+
+/// The string of a TYPE 1 or 2 unit.
+fn string(unit: &[u8]) -> &[u8] {
+    match unit[0] & 7 {
+        1 => &unit[9..][..usize::from(u16::from_be_bytes([unit[7], unit[8]]))],
+        _ => &unit[10..],
+    }
+}
+
+/// The same unit with zeros of UTF-8 for a string, which are well-formed.
+fn with_zeros(unit: &[u8]) -> Vec<u8> {
+    let mut good = unit.to_vec();
+    good[0] &= 0x7F;
+    let start = if unit[0] & 7 == 1 { 9 } else { 10 };
+    good[start..][..string(unit).len()].fill(0);
+    good
 }
 
 impl<const MISTAKE: u8> Opinion for Wrong<MISTAKE> {
@@ -63,7 +125,14 @@ impl<const MISTAKE: u8> Opinion for Wrong<MISTAKE> {
 
     fn receive(&mut self, desk: usize, time: u32, rest: &[u8], out: &mut [u8]) -> Answer {
         let desk = if self.lent_other { usize::MAX } else { desk };
-        let mut answer = self.second.receive(desk, time, rest, out);
+        let mut answer = match MISTAKE {
+            OTHER_ENCODING => self.receive_otherwise((desk, time), rest, out),
+            _ => self.second.receive(desk, time, rest, out),
+        };
+        if answer.outcome == Outcome::Refused(17) {
+            let misread = self.misread((desk, time), &rest[..answer.used], out);
+            answer = misread.unwrap_or(answer);
+        }
         if MISTAKE == FORGETS_LATE && answer.outcome == Outcome::Refused(6) {
             answer.outcome = Outcome::Repeat;
         }
@@ -201,6 +270,32 @@ fn every_mistake_is_found_and_logged() {
     assert_found::<DESCRIBE>("describe");
     assert_found::<CHECK>("book");
     assert_found::<STEP>("walk");
+}
+
+#[test]
+fn mistakes_about_strings_are_found_by_a_17_and_logged() {
+    assert_found::<WHOLE_UNREAD>("receive");
+    assert_found::<PARTS_UNREAD>("receive");
+    assert_found::<HALF_UNITS>("receive");
+    assert_found::<OTHER_ENCODING>("receive");
+    assert_found::<ADDS_TIME>("receive");
+    assert_found::<LATE_FIRST>("receive");
+    assert_found::<CONFLICT_FIRST>("receive");
+    assert_found::<SIZE_FIRST>("receive");
+    let mistakes = [
+        rivals::<WHOLE_UNREAD>(),
+        rivals::<PARTS_UNREAD>(),
+        rivals::<HALF_UNITS>(),
+        rivals::<OTHER_ENCODING>(),
+        rivals::<ADDS_TIME>(),
+        rivals::<LATE_FIRST>(),
+        rivals::<CONFLICT_FIRST>(),
+        rivals::<SIZE_FIRST>(),
+    ];
+    for what in mistakes {
+        assert!(what.contains(", rival says "), "{what}");
+        assert!(what.contains("Refused(17)"), "{what}");
+    }
 }
 
 #[test]

@@ -128,6 +128,7 @@ fn walked(found: &Step) -> String {
 #[cfg(test)]
 mod tests {
     use super::*;
+    use spindlefig::Answer;
 
     fn facts(u: u8, string: usize, sample: usize) -> Facts {
         Facts {
@@ -151,6 +152,22 @@ mod tests {
     fn utf_16_is_read_with_half_a_unit_and_half_a_pair() {
         assert_eq!(utf16(&[0, 0x48, 0xd8, 0x3d, 0xde, 0]), "H\u{1f600}");
         assert_eq!(utf16(&[0xd8, 0x3d, 0x20]), "\u{fffd}\u{fffd}");
+    }
+
+    #[test]
+    fn a_refusal_is_told_in_words() {
+        let heard = Heard {
+            at: 0,
+            time: 6,
+            answer: Answer {
+                used: 10,
+                next: 6,
+                outcome: Outcome::Refused(Refusal::IllFormed),
+            },
+            sample: Vec::new(),
+        };
+        let words = "the string is not well-formed; the screens stay as they are";
+        assert_eq!(unit(&[0; 10], &heard), format!("(refused 17: {words})"));
     }
 
     #[test]

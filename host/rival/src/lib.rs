@@ -9,11 +9,13 @@
 mod book;
 mod desk;
 mod place;
+mod string;
 mod unit;
 mod window;
 
 use desk::Desk;
 use place::{Joined, Place};
+use string::is_well_formed;
 use unit::{Part, Whole};
 
 /// The longest sample, and the least length of a lent output.
@@ -162,6 +164,9 @@ impl Rival {
         let Some(whole) = unit::whole(unit) else {
             return refused(used, time, 4);
         };
+        if !is_well_formed(whole.u, &whole.data[..whole.tlen]) {
+            return refused(used, time, 17);
+        }
         let next = time.wrapping_add(whole.sdur);
         if let Err(number) = self.whole(desk, time, &whole, out) {
             return refused(used, next, number);
@@ -218,6 +223,9 @@ impl Rival {
         let Some(part) = unit::part(unit) else {
             return refused(used, time, 4);
         };
+        if part.is_string() && !is_well_formed(part.text.u(), part.data) {
+            return refused(used, time, 17);
+        }
         let next = time.wrapping_add(part.lasts());
         let joined = match self.part(desk, time, &part, out) {
             Ok(Step::Joined(joined)) => joined,

@@ -119,3 +119,58 @@ fn case_10_the_shares() {
     assert_eq!(relay.give_up(0, 3), Err(11));
     assert_eq!(receive(&mut relay, 1, 2, PART_7).outcome, Outcome::Kept(1));
 }
+
+/// The unit is 17: its bytes are used, and time and output stay.
+fn assert_ill_formed(relay: &mut Rival, time: u32, rest: &[u8]) {
+    let mut out = [0xEE; 1024];
+    let answer = relay.receive(0, time, rest, &mut out);
+    let expected = Answer {
+        used: rest.len(),
+        next: time,
+        outcome: Outcome::Refused(17),
+    };
+    assert_eq!(answer, expected, "{rest:02X?}");
+    assert_eq!(out, [0xEE; 1024], "{rest:02X?}");
+}
+
+#[test]
+fn ill_formed_strings_are_17_before_late_repeats_and_too_many_bytes() {
+    let mut relay = fresh(1);
+    let head = b"\x01\x04\x09\x80\x00\x00\x09\x04\x01";
+    assert_ill_formed(&mut relay, 6, &[&head[..], &[0xFF; 1025]].concat());
+    assert_ill_formed(&mut relay, 6, &third(1, b"\xE2\x82"));
+    assert_ill_formed(&mut relay, 6, &third(3, b"\xAC"));
+    assert_ill_formed(
+        &mut relay,
+        6,
+        b"\x82\x00\x0B\x11\x00\x00\x09\x80\x00\x02\xD8\x3D",
+    );
+    assert_ill_formed(
+        &mut relay,
+        6,
+        b"\x81\x00\x0B\x80\x00\x00\x09\x00\x03\x00a\x00",
+    );
+    let kept = receive(&mut relay, 0, 6, &third(3, b"def"));
+    assert_eq!((kept.next, kept.outcome), (106, Outcome::Kept(2)));
+    assert_ill_formed(&mut relay, 6, &third(3, b"de\xFF"));
+    assert_eq!(relay.give_up(0, 6), Ok(()));
+    let late = receive(&mut relay, 0, 6, &third(3, b"def"));
+    assert_eq!((late.next, late.outcome), (106, Outcome::Refused(6)));
+    assert_ill_formed(&mut relay, 6, &third(3, b"de\xFF"));
+}
+
+#[test]
+fn only_strings_are_looked_at() {
+    let mut relay = fresh(1);
+    let units: [&[u8]; 5] = [
+        b"\x01\x00\x0A\x80\x00\x00\x01\x00\x01a\xFF",
+        b"\x81\x00\x09\x80\x00\x00\x01\x00\x00\xFF",
+        b"\x03\x00\x07\x31\x00\x00\x01\xFF",
+        b"\x84\x00\x07\x32\x00\x00\x01\xFF",
+        b"\x85\x00\x04\x07\xFF",
+    ];
+    for (time, unit) in [0, 1, 2, 2, 2].into_iter().zip(units) {
+        let outcome = receive(&mut relay, 0, time, unit).outcome;
+        assert!(!matches!(outcome, Outcome::Refused(_)), "{unit:02X?}");
+    }
+}

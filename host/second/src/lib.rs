@@ -1,7 +1,7 @@
 //! A second caption relay in plain Rust, written from the rules alone.
 //!
 //! It keeps what it holds in maps and vectors and borrows no memory from its
-//! caller. Refusals are the numbers of the rules, 1 to 16.
+//! caller. Refusals are the numbers of the rules, 1 to 17.
 
 mod boxes;
 mod desk;

@@ -1,6 +1,8 @@
 //! Reading one unit.
 
-/// A unit whose fields are in range.
+use crate::is_well_formed;
+
+/// A unit whose fields are in range and whose string is well-formed.
 pub enum Unit<'a> {
     Whole(Whole<'a>),
     Part(Part<'a>),
@@ -59,15 +61,32 @@ fn number(bytes: &[u8]) -> u32 {
 }
 
 impl<'a> Unit<'a> {
-    /// Reads the bytes of one unit, or gives refusal 4.
+    /// Reads the bytes of one unit, or gives refusal 4 or, behind it, 17.
     pub fn read(bytes: &'a [u8]) -> Result<Unit<'a>, u8> {
-        let read = match bytes[0] & 7 {
+        let unit = Unit::fields(bytes).ok_or(4)?;
+        match unit.string() {
+            Some((u, string)) if !is_well_formed(u.into(), string) => Err(17),
+            _ => Ok(unit),
+        }
+    }
+
+    /// The unit before its string is looked at; `None` where a field is out of range.
+    fn fields(bytes: &'a [u8]) -> Option<Unit<'a>> {
+        match bytes[0] & 7 {
             1 => whole(bytes).map(Unit::Whole),
             kind @ 2..=4 => part(kind, bytes).map(Unit::Part),
             5 => description(bytes),
             kind => Some(Unit::Skipped(kind)),
-        };
-        read.ok_or(4)
+        }
+    }
+
+    /// U and the bytes that have to be a string by themselves, where the unit has such.
+    fn string(&self) -> Option<(u8, &'a [u8])> {
+        match self {
+            Unit::Whole(whole) => Some((whole.u, &whole.data[..whole.tlen])),
+            Unit::Part(part) => part.head.text.map(|text| (text.u, part.data)),
+            _ => None,
+        }
     }
 
     /// What the unit adds to the running time.

@@ -12,7 +12,8 @@ pub struct Facts {
     pub sidx: u8,
     /// How long it lasts.
     pub sdur: u32,
-    /// The length of its string, in bytes; what follows in the sample are modifiers.
+    /// The length of its string, in bytes, which are well-formed; what follows in the sample are
+    /// modifiers.
     pub string: usize,
     /// The length of the sample, in bytes.
     pub sample: usize,

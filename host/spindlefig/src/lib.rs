@@ -2,8 +2,9 @@
 //! eight desks, joins samples that came in parts, keeps each desk's style descriptions and hands
 //! whole captions out; and it writes such payloads.
 //!
-//! Every call goes to a library that is proved to answer as document 01, the rule book, says.
-//! Nothing has to be checked beforehand: what is wrong is refused by its number, a [`Refusal`].
+//! Every call goes to a library that is proved to answer as the rule book says: document 01, with
+//! request 1 of document 02. Nothing has to be checked beforehand: what is wrong is refused by its
+//! number, a [`Refusal`].
 //!
 //! ```
 //! use spindlefig::{Caption, Relay, Writer};

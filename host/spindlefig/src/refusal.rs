@@ -1,14 +1,15 @@
 use std::error::Error;
 use std::fmt;
 
-/// Why a call is refused: document 01's sixteen refusals, in the order of their numbers.
+/// Why a call is refused: document 01's sixteen refusals and the 17th, of request 1 in document 02,
+/// in the order of their numbers.
 ///
 /// ```
 /// use spindlefig::Refusal;
 ///
 /// assert_eq!(Refusal::Conflict.number(), 7);
 /// assert_eq!(Refusal::from_number(7), Some(Refusal::Conflict));
-/// assert_eq!(Refusal::from_number(17), None);
+/// assert_eq!(Refusal::from_number(18), None);
 /// assert_eq!(Refusal::Frame.to_string(), "refused 3: the unit is cut short");
 /// ```
 #[derive(Debug, Clone, Copy, PartialEq, Eq)]
@@ -46,9 +47,11 @@ pub enum Refusal {
     Box,
     /// 16: a record of the style book is bad.
     Book,
+    /// 17: the string of the unit is not well-formed.
+    IllFormed,
 }
 
-const ALL: [Refusal; 16] = [
+const ALL: [Refusal; 17] = [
     Refusal::Desk,
     Refusal::Output,
     Refusal::Frame,
@@ -65,15 +68,16 @@ const ALL: [Refusal; 16] = [
     Refusal::Payload,
     Refusal::Box,
     Refusal::Book,
+    Refusal::IllFormed,
 ];
 
 impl Refusal {
-    /// Its number in document 01, 1 to 16.
+    /// Its number in the rules, 1 to 17.
     pub fn number(self) -> u8 {
         self as u8
     }
 
-    /// The refusal of a number, if it is 1 to 16.
+    /// The refusal of a number, if it is 1 to 17.
     pub fn from_number(number: u8) -> Option<Refusal> {
         let i = usize::from(number).checked_sub(1)?;
         ALL.get(i).copied()
@@ -84,7 +88,7 @@ impl Refusal {
         u8::try_from(number)
             .ok()
             .and_then(Refusal::from_number)
-            .expect("the library answers refusals 1 to 16")
+            .expect("the library answers refusals 1 to 17")
     }
 
     /// The reason in a few words, without the number.
@@ -106,6 +110,7 @@ impl Refusal {
             Refusal::Payload => "there is no payload of that number",
             Refusal::Box => "no box stands there",
             Refusal::Book => "a record of the style book is bad",
+            Refusal::IllFormed => "the string is not well-formed",
         }
     }
 }

@@ -87,7 +87,8 @@ impl Relay {
     ///
     /// `time` is the running time: the packet's timestamp for the first unit, then each answer's
     /// `next`. After whole and joined the sample stands at the front of `out`, which has to have
-    /// [`OUTPUT`] bytes at least; what lies behind it stays.
+    /// [`OUTPUT`] bytes at least; what lies behind it stays. The string of a TYPE 1 unit and the data
+    /// of a TYPE 2 one have to be well-formed by themselves.
     ///
     /// ```
     /// use spindlefig::{Outcome, Refusal, Relay, OUTPUT};
@@ -101,6 +102,11 @@ impl Relay {
     ///
     /// let answer = relay.receive(0, 91000, b"\x01\x00\x01", &mut out);
     /// assert_eq!(answer.outcome, Outcome::Refused(Refusal::Frame));
+    ///
+    /// let half_a_letter = b"\x01\x00\x0a\x80\x01\x5f\x90\x00\x02n\xc3";
+    /// let answer = relay.receive(0, 91000, half_a_letter, &mut out);
+    /// assert_eq!((answer.used, answer.next), (11, 91000));
+    /// assert_eq!(answer.outcome, Outcome::Refused(Refusal::IllFormed));
     /// # Ok::<(), Refusal>(())
     /// ```
     pub fn receive(&mut self, desk: usize, time: u32, rest: &[u8], out: &mut [u8]) -> Answer {

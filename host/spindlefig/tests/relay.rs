@@ -143,3 +143,57 @@ fn the_largest_caption_comes_back_from_fifteen_parts_in_any_order() {
     assert_eq!(last.answer.next, u32::MAX);
     assert!(heard.iter().all(|earlier| earlier.sample.is_empty()));
 }
+
+/// The unit is 17: its bytes are used, and time, memory and output stay.
+fn assert_ill_formed(relay: &mut Relay, rest: &[u8]) {
+    let before = relay.clone();
+    let mut out = [7; OUTPUT];
+    let answer = relay.receive(0, 6, rest, &mut out);
+    let refused = Outcome::Refused(Refusal::IllFormed);
+    assert_eq!(answer.outcome, refused, "{rest:02x?}");
+    assert_eq!((answer.used, answer.next), (rest.len(), 6), "{rest:02x?}");
+    assert!(*relay == before && out == [7; OUTPUT], "{rest:02x?}");
+}
+
+#[test]
+fn an_ill_formed_string_is_refused_before_it_is_late_or_too_long() {
+    let mut relay = Relay::set_up(1).unwrap();
+    let head = b"\x01\x04\x09\x80\x00\x00\x09\x04\x01";
+    let long = [&head[..], &[0xff; 1025]].concat();
+    assert_ill_formed(&mut relay, &long);
+    relay.receive(0, 6, HI, &mut [0; OUTPUT]);
+    assert_ill_formed(&mut relay, &long);
+    assert_ill_formed(&mut relay, b"\x81\x00\x0b\x80\x00\x00\x09\x00\x03\x00H\x00");
+}
+
+#[test]
+fn each_string_part_is_well_formed_by_itself() {
+    let mut relay = Relay::set_up(1).unwrap();
+    let halves: [&[u8]; 3] = [
+        b"\x02\x00\x0b\x21\x00\x00\x09\x80\x00\x03\xe2\x82",
+        b"\x02\x00\x0a\x22\x00\x00\x09\x80\x00\x03\xac",
+        b"\x82\x00\x0b\x21\x00\x00\x09\x80\x00\x04\xd8\x3d",
+    ];
+    for half in halves {
+        assert_ill_formed(&mut relay, half);
+    }
+    let euro = b"\x02\x00\x0c\x11\x00\x00\x09\x80\x00\x03\xe2\x82\xac";
+    let joined = relay.receive(0, 6, euro, &mut [0; OUTPUT]);
+    assert_eq!(joined.outcome.facts().map(|facts| facts.string), Some(3));
+}
+
+#[test]
+fn modifiers_and_descriptions_are_not_looked_at() {
+    let mut relay = Relay::set_up(1).unwrap();
+    let units: [&[u8]; 4] = [
+        b"\x81\x00\x0b\x80\x00\x00\x09\x00\x02\x00H\xff",
+        b"\x83\x00\x07\x31\x00\x00\x09\xff",
+        b"\x04\x00\x07\x32\x00\x00\x09\xff",
+        b"\x05\x00\x04\x07\xff",
+    ];
+    let heard: Vec<_> = relay.units(0, 6, &units.concat()).collect();
+    let outcomes: Vec<_> = heard.iter().map(|heard| heard.answer.outcome).collect();
+    assert!(matches!(outcomes[0], Outcome::Whole(_)));
+    let kept = [Outcome::Kept(2), Outcome::Kept(1)];
+    assert_eq!(outcomes[1..], [&kept[..], &[Outcome::Described]].concat());
+}

@@ -19,13 +19,15 @@ read-spec =
     (λ c κs. search needs)
     (λ c κs. search needs)
     (λ c. search needs)
+    (λ c κs. search needs)
     (λ c.
-    let e = c .before .before .before .before in
+    let e = c .before .before .before .before .before in
     no _ _ (ne _ _ (e .before .before .if1 .left))
     (no _ _ (branched _ _ _ (e .before .is-broken .ensures) (e .if2 .left))
     (rw (
-      c .judge .ensures,
-      c .before .read-fields .ensures,
-      c .before .before .number16 .ensures .0,
-      c .before .before .before .byte .ensures .0,
+      c .spell .ensures,
+      c .before .judge .ensures,
+      c .before .before .read-fields .ensures,
+      c .before .before .before .number16 .ensures .0,
+      c .before .before .before .before .byte .ensures .0,
     )))))

@@ -217,8 +217,11 @@ impl<'a> Scene<'a> {
 
     fn cut_flight(&mut self) {
         let sdur = self.sdur();
-        let parts = cut::by_hand(sdur, self.random);
-        self.launch(parts);
+        let units = match self.random.below(12) {
+            0 => cut::in_one(sdur, self.random),
+            _ => cut::by_hand(sdur, self.random),
+        };
+        self.launch(units);
     }
 
     /// Sends a few parts out of few, one payload.
@@ -240,13 +243,18 @@ impl<'a> Scene<'a> {
         self.receive(desk, time, payload.concat());
     }
 
-    /// Finishes many times in a row with whole samples in one payload.
+    /// Finishes many times in a row with whole samples in one payload; TLEN falls anywhere, also
+    /// inside a character.
     fn march(&mut self) {
         let mut payload = Vec::new();
         for _ in 0..self.random.pick(&[1, 2, 5, 15, 16, 17]) {
-            let data = self.random.pick(&[&b""[..], b"a", b"abc"]);
+            let (u, data) = match self.random.below(12) {
+                0 => (0, &b"n\xC3\xA9"[..]),
+                1 => (1, &b"\x00n\xD8\x3D\xDE\x00"[..]),
+                _ => (0, self.random.pick(&[&b""[..], b"a", b"abc"])),
+            };
             let tlen = self.random.below(data.len() + 1) as u16;
-            payload.extend(units::whole(128, self.step, tlen, data));
+            payload.extend(units::whole(u, 128, self.step, tlen, data));
         }
         let (desk, time) = (self.desk(), self.time());
         self.receive(desk, time, payload);

@@ -1,5 +1,6 @@
 //! Units built by hand, and damage.
 
+use super::cut;
 use crate::random::Random;
 
 const INDEXES: [u8; 8] = [0, 5, 127, 128, 129, 200, 254, 255];
@@ -18,8 +19,9 @@ pub fn sdur_bytes(sdur: u32) -> [u8; 3] {
     sdur
 }
 
-pub fn whole(sidx: u8, sdur: u32, tlen: u16, data: &[u8]) -> Vec<u8> {
-    unit(1, &[&[sidx], &sdur_bytes(sdur), &tlen.to_be_bytes(), data])
+pub fn whole(u: u8, sidx: u8, sdur: u32, tlen: u16, data: &[u8]) -> Vec<u8> {
+    let (sdur, tlen) = (sdur_bytes(sdur), tlen.to_be_bytes());
+    unit(u << 7 | 1, &[&[sidx], &sdur, &tlen, data])
 }
 
 pub fn description(sidx: u8, data: &[u8]) -> Vec<u8> {
@@ -49,19 +51,26 @@ pub fn part(head: Head, data: &[u8]) -> Vec<u8> {
     unit(first, &[&numbers, &sdur, data])
 }
 
-/// A part out of so few that repeats, conflicts, joins and spoiled samples are frequent.
+/// A part out of so few that repeats, conflicts, joins and spoiled samples are frequent. A few are
+/// half a letter, each in one encoding or in both.
 pub fn common_part(random: &mut Random, sdur: u32) -> Vec<u8> {
     let total = random.between(1, 3) as u8;
+    let u = u8::from(random.percent(5));
+    let data = match random.below(12) {
+        0 => random.pick(&[&b"a"[..], b"\xC3", b"\xC3\xA9", b"\xD8\x3D", b"a\xDC\x00"]),
+        _ if u == 1 => random.pick(&[&b"ab"[..], b"ab", b"\x00b", b"\x00a\x00b"]),
+        _ => random.pick(&[&b"a"[..], b"a", b"b", b"ab"]),
+    };
     let head = Head {
         kind: random.pick(&[2, 2, 2, 3, 4]),
-        u: u8::from(random.percent(5)),
+        u,
         total,
         this: random.between(1, usize::from(total)) as u8,
         sdur,
         sidx: random.pick(&[128, 128, 128, 5]),
         slen: random.pick(&[2, 3, 3, 3, 4]),
     };
-    part(head, random.pick(&[&b"a"[..], b"a", b"b", b"ab"]))
+    part(head, data)
 }
 
 /// A unit of any TYPE whose fields are odd in every way but LEN.
@@ -70,7 +79,11 @@ pub fn odd(random: &mut Random) -> Vec<u8> {
     let sidx = [random.pick(&INDEXES)];
     let sdur = random.bytes(3);
     let length = random.pick(&LENGTHS);
-    let data = random.bytes(length);
+    let mut data = random.bytes(length);
+    if random.percent(70) {
+        let string = cut::string(usize::from(first >> 7), length, random);
+        data[..string.len()].copy_from_slice(&string);
+    }
     let near = (length as u16).wrapping_add(random.pick(&[0, 0, 1, 65535]));
     let other = random.pick(&NUMBERS);
     let number = random.pick(&[near, other]).to_be_bytes();
