@@ -43,3 +43,25 @@ impl Hears for Copied {
         unit.len()
     }
 }
+
+/// Asks Rust's own decoder whether a unit's string is well-formed, and does nothing else.
+pub struct Decoded;
+
+impl Hears for Decoded {
+    fn hear(&mut self, _: usize, _: u32, unit: &[u8], _: &mut [u8]) -> usize {
+        let u = usize::from(unit[0] >> 7);
+        usize::from(black_box(second::is_well_formed(u, string(unit))))
+    }
+}
+
+/// The string of a TYPE 1 or 2 unit, as far as it is there; nothing of any other.
+fn string(unit: &[u8]) -> &[u8] {
+    let string = match (unit[0] & 7, unit) {
+        (1, [_, _, _, _, _, _, _, high, low, sample @ ..]) => {
+            sample.get(..usize::from(u16::from_be_bytes([*high, *low])))
+        }
+        (2, unit) => unit.get(10..),
+        _ => None,
+    };
+    string.unwrap_or_default()
+}

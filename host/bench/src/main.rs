@@ -11,7 +11,7 @@ mod stack;
 mod strings;
 
 use compiled::Compiled;
-use hears::{Copied, Hears};
+use hears::{Copied, Decoded, Hears};
 use library::Library;
 use load::{Call, Load};
 use rival::Rival;
@@ -91,10 +91,10 @@ fn timed<H: Hears>(load: &Load, mut hearer: H) -> (f64, usize) {
 }
 
 /// Those that are measured, in the order of the columns.
-const NAMES: [&str; 5] = ["proved", "second", "rival", "memcpy", "old"];
+const NAMES: [&str; 6] = ["proved", "second", "rival", "memcpy", "decoder", "old"];
 
 /// One run of everyone, in nanoseconds a unit; for those that are not there, nothing.
-fn turn(load: &Load, proved: &Library, old: Option<&Library>) -> [Option<f64>; 5] {
+fn turn(load: &Load, proved: &Library, old: Option<&Library>) -> [Option<f64>; 6] {
     let desks = load.desks;
     let (proved, answers) = timed(load, Compiled::fresh(proved, desks));
     let same = |name: &str, (time, sum): (f64, usize)| {
@@ -108,17 +108,18 @@ fn turn(load: &Load, proved: &Library, old: Option<&Library>) -> [Option<f64>; 5
         same("second", timed(load, second)),
         same("rival", timed(load, rival)),
         Some(timed(load, Copied).0),
+        Some(timed(load, Decoded).0),
         old.map(|old| timed(load, Compiled::fresh(old, desks)).0),
     ]
 }
 
 /// The quickest run of each.
-fn quickest(load: &Load, proved: &Library, old: Option<&Library>, runs: usize) -> [Option<f64>; 5] {
+fn quickest(load: &Load, proved: &Library, old: Option<&Library>, runs: usize) -> [Option<f64>; 6] {
     (0..runs)
         .map(|_| turn(load, proved, old))
         .reduce(|best, times| {
             let pair = |i: usize| Some(f64::min(best[i]?, times[i]?));
-            [pair(0), pair(1), pair(2), pair(3), pair(4)]
+            [0, 1, 2, 3, 4, 5].map(pair)
         })
         .expect("there is a run")
 }
@@ -136,8 +137,11 @@ fn measure(load: &Load, proved: &Library, old: Option<&Library>, runs: usize) {
     for time in times.iter().flatten() {
         print!(" {time:>7.0}");
     }
-    for other in [times[1], times[2], times[4]].iter().flatten() {
+    for other in [times[1], times[2], times[5]].iter().flatten() {
         print!(" {:>8.2}", times[0].unwrap_or(f64::NAN) / other);
+    }
+    if let [Some(proved), .., Some(decoder), Some(old)] = times {
+        print!(" {:>8.2}", (proved - old) / decoder);
     }
     let otherwise = old.is_some_and(|old| answers_otherwise(load, proved, old));
     println!("{}", if otherwise { " *" } else { "" });
@@ -145,15 +149,16 @@ fn measure(load: &Load, proved: &Library, old: Option<&Library>, runs: usize) {
 
 fn print_times(proved: &Library, old: Option<&Library>, runs: usize) {
     println!("Nanoseconds a unit, the quickest of {runs} runs of about {UNITS} units, all by turns; tables are made anew and");
-    println!("{WARMING} units played before each. The ratios are the proved relay's time to the others'. *: an old version that");
-    println!("has other rules answers some of these units otherwise.");
+    println!("{WARMING} units played before each. The ratios are the proved relay's time to the others'; added is what it takes more than");
+    println!("the old one, in times of Rust's decoder on the unit's string. *: the old one, of other rules, answers some units otherwise.");
     println!();
     print!("{:<22} n {:<5} {:>6}", "units", "table", "bytes");
-    let there = if old.is_some() { 5 } else { 4 };
+    let there = if old.is_some() { 6 } else { 5 };
     for name in &NAMES[..there] {
         print!(" {name:>7}");
     }
-    for name in ["/second", "/rival", "/old"].iter().take(there - 2) {
+    let ratios = ["/second", "/rival", "/old", "added"];
+    for name in &ratios[..if old.is_some() { 4 } else { 2 }] {
         print!(" {name:>8}");
     }
     println!();
