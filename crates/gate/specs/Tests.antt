@@ -2,8 +2,8 @@
 use Prim.Native.Nat.{ℕ, _+_, _*_, _^_, _≤_, _<_}
 use native.Mathlib.Omega.{arith}
 use mathlib.Core.Path.{_≡_, refl, sym, ap, _∙_}
-use mathlib.Core.Bool.{Bool, true, false, not, true≢false}
-use Rattle.laws.specs.Rows.{_⇒_⁏_, _or_, _<?_, yes, no, lt-of, ge-of, or-none}
+use mathlib.Core.Bool.{Bool, true, false, true≢false}
+use Rattle.laws.specs.Rows.{_⇒_⁏_, _or_, _<?_, yes, no, lt-of, ge-of, or-none, not-of}
 use Rattle.paper.specs.Limits.{sampleMost, finishedMost, desksMost, headSize, marksEach, storeSize, places, rowsNeed, marksNeed, storesNeed}
 use Rattle.paper.specs.declared.Refusal.{Refusal}
 use Rattle.paper.specs.declared.Refusal.the-variants as R
@@ -24,11 +24,7 @@ few n h = ge-of desksMost n (or-none _ _ h .1)
 
 pub proper : (n desk : ℕ) → stranger n desk ≡ false → (n ≤ desksMost) × (desk < n)
 unfolding stranger
-proper n desk h = let k = or-none _ _ h in (few n (k .0), lt-of desk n (go (desk <? n) (k .1)))
-  where
-    go : (b : Bool) → not b ≡ false → b ≡ true
-    go true e = refl
-    go false e = sym e
+proper n desk h = let k = or-none _ _ h in (few n (k .0), lt-of desk n (not-of _ (k .1)))
 
 pub long : (need have : ℕ) → short need have ≡ false → need ≤ have
 unfolding short

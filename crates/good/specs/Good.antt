@@ -7,7 +7,7 @@ use mathlib.Core.Bool.{Bool, true, false, not}
 use mathlib.Core.List.{List, [], _∷_}
 use lib.ListN.{length, take, drop, getD, set, replicate, length-append, length-set, length-replicate}
 use lib.Seq.{sets, length-sets, length-take-le, take-at, sets-eq}
-use Rattle.laws.specs.Rows.{_⇒_⁏_, _or_, _<?_, no, lt, ge, ne, lt-of, ge-of, ne-of, or-none}
+use Rattle.laws.specs.Rows.{_⇒_⁏_, _or_, no, lt, ge, ne, lt-of, ge-of, ne-of, or-none, not-of}
 use Rattle.laws.specs.Exactly.{Exactly}
 use Rattle.laws.specs.Region.{part, length-cell}
 use Rattle.paper.specs.Limits.{headSize, finishedMost, desksMost, marksEach, storeSize, places, rowsNeed, marksNeed, storesNeed}
@@ -50,11 +50,7 @@ pub record Good (n : ℕ) (s : Tables) : Type 0 where
 -- ---- refusal 1: what it lets through, and that it lets every desk of good tables through
 pub below : (n desk : ℕ) → stranger n desk ≡ false → desk < n
 unfolding stranger
-below n desk e = lt-of _ _ (turned (desk <? n) (or-none _ _ e .1))
-  where
-    turned : (b : Bool) → not b ≡ false → b ≡ true
-    turned true h = refl
-    turned false h = sym h
+below n desk e = lt-of _ _ (not-of _ (or-none _ _ e .1))
 
 pub no-stranger : (n desk : ℕ) (s : Tables) → Good n s → desk < n → stranger n desk ≡ false
 unfolding stranger improper

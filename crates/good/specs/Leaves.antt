@@ -4,11 +4,11 @@
 use Prim.Native.Nat.{ℕ, _<_}
 use native.Mathlib.Omega.{arith}
 use mathlib.Core.Path.{_≡_, refl, sym, ap, subst, _∙_}
-use mathlib.Core.Bool.{Bool, true, false, not, true≢false}
+use mathlib.Core.Bool.{Bool, true, false, true≢false}
 use mathlib.Core.Logic.{_⊎_, inl, inr, _≢_}
 use mathlib.Core.List.{List}
 use lib.ListN.{length, length-set}
-use Rattle.laws.specs.Rows.{_<?_, each, no, lt-of, ge-of, ne-of, or-none}
+use Rattle.laws.specs.Rows.{_<?_, each, no, lt-of, ge-of, ne-of, or-none, not-of}
 use Rattle.paper.specs.Limits.{ownPlaces, common}
 use Rattle.finished.specs.Marks.{length-kept}
 use Rattle.text.specs.Unicode.{WellFormed}
@@ -65,11 +65,7 @@ noted-length store newest sidx d =
 -- a part that is no conflict is new and agrees; and if it is not too much, it may be kept
 no-conflict : (q : Place) (x : P.Part) → conflicts q x ≡ false → (has q (x .this) ≡ false) × (agrees q x ≡ true)
 unfolding conflicts
-no-conflict q x a = let n = or-none _ _ a in (n .0, turned (agrees q x) (n .1))
-  where
-    turned : (y : Bool) → not y ≡ false → y ≡ true
-    turned true e = refl
-    turned false e = sym e
+no-conflict q x a = let n = or-none _ _ a in (n .0, not-of _ (n .1))
 
 pub agreed : (q : Place) (x : P.Part) → conflicts q x ≡ false → agrees q x ≡ true
 agreed q x a = no-conflict q x a .1

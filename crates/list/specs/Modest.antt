@@ -2,11 +2,11 @@
 use Prim.Native.Nat.{ℕ, _<_, _≤_}
 use native.Mathlib.Omega.{arith}
 use mathlib.Core.Path.{_≡_, refl, sym}
-use mathlib.Core.Bool.{Bool, true, false, not, true≢false}
+use mathlib.Core.Bool.{Bool, true, false, true≢false}
 use mathlib.Core.Logic.{_⊎_, inl, inr}
 use mathlib.Core.List.{List}
 use lib.ListN.{length}
-use Rattle.laws.specs.Rows.{_⇒_⁏_, _and_, each, eq-of, ge-of, and-of, or-none}
+use Rattle.laws.specs.Rows.{_⇒_⁏_, _and_, each, eq-of, ge-of, and-of, or-none, not-of}
 use Rattle.paper.specs.Limits.{sampleMost}
 use Rattle.paper.specs.declared.Outcome.{Outcome}
 use Rattle.paper.specs.declared.Outcome.the-variants as O
@@ -85,10 +85,6 @@ unfolding _⇒_⁏_
 both true b p q = q
 both false b p q = absurd (true≢false (sym p))
 
-unnot : (b : Bool) → not b ≡ false → b ≡ true
-unnot true e = refl
-unnot false e = absurd (true≢false e)
-
 kept-modest : (q : Place) (x : P.Part) (d : List ℕ) → q .slen ≤ sampleMost → oversize q x (length d) ≡ false
     → (kept q x d .slen ≤ sampleMost) × (kept q x d .total ≡ q .total)
 unfolding kept telling toldOf laid oversize
@@ -121,7 +117,7 @@ joining-modest g s time used next q x d h n k t =
     (λ e. each (Modest used) _ _ _ (λ e. record { next = n; uses = refl; words = tt })
     (λ e.
     let m = kept-modest q x d k o in
-    let a = eq-of (q .total) (x .total) (and-of _ _ (unnot _ (or-none _ _ c .1)) .0) in
+    let a = eq-of (q .total) (x .total) (and-of _ _ (not-of _ (or-none _ _ c .1)) .0) in
     completed-modest s time used next (kept q x d) n (m .0) (omega arith)))))))
 
 sample-modest : (p : Place) (desk time : ℕ) (x : P.Part) → p .slen ≤ sampleMost → sampleOf p desk time x .slen ≤ sampleMost

@@ -5,4 +5,4 @@ pub mod Text
 pub mod Again
 pub mod Reads
 pub mod Converse
-pub mod Four
+pub mod Exactly

@@ -1,10 +1,10 @@
 -- What 17 lets through: whatever is read as TYPE 1 has a well-formed string, and as TYPE 2 well-formed data. Assumes nothing.
 use Prim.Native.Nat.{ℕ}
 use mathlib.Core.Path.{_≡_, refl, sym, ap, subst}
-use mathlib.Core.Bool.{Bool, true, false, not}
+use mathlib.Core.Bool.{false, not}
 use mathlib.Core.List.{List, []}
 use lib.ListN.{length, take}
-use Rattle.laws.specs.Rows.{each, yes, no, eq, ne}
+use Rattle.laws.specs.Rows.{each, yes, no, eq, ne, not-of}
 use Rattle.paper.specs.declared.Refusal.the-variants.{IllFormed}
 use Rattle.text.specs.Unicode.{WellFormed, wellFormed}
 use Rattle.text.specs.Strings.{well-formed, well-found, empty-well}
@@ -35,11 +35,7 @@ spelled-each P s x r k = each P _ _ _ (λ q. r) k
 -- 17 lets through exactly the units whose text is well-formed
 pub passed-well : (s : List ℕ) (x : Unit) → misspelled s x ≡ false → WellSpelled x (dataOf s x)
 unfolding misspelled
-passed-well s x h = well-formed _ _ (turned (wellFormed (encodingOf x) (textOf x (dataOf s x))) h)
-  where
-    turned : (b : Bool) → not b ≡ false → b ≡ true
-    turned true e = refl
-    turned false e = sym e
+passed-well s x h = well-formed _ _ (not-of _ h)
 
 pub well-spelled : (s : List ℕ) (x : Unit) → WellSpelled x (dataOf s x) → spelled s x ≡ x
 unfolding misspelled spelled
