@@ -37,11 +37,14 @@ pub described-again : (SIDX : ℕ) (d : List ℕ) (M k : ℕ) (out : List ℕ) (
 described-again SIDX d M k out len N e =
     let w : DescriptionWritten SIDX d M k out (described SIDX d M k out .out) len N = described-written SIDX d M k out len N e in
     let x : Proper (description SIDX (length d)) d =
-    record { fit = description-unit {d = d} (w .sent .index) (w .sent .some) (omega (arith, w .sent .few)); text = empty-well 0 [] refl } in
+    record {
+      fields = description-unit {d = d} (w .sent .index) (w .sent .some) (omega (arith, w .sent .few));
+      text = empty-well 0 [] refl;
+    } in
     record {
       only = w .only;
       read = λ more. rw (w .front, w .size) (unit-again (description SIDX (length d)) d more x);
-      bytes = λ more. rw (w .front) (data-again (description SIDX (length d)) d more (x .fit));
+      bytes = λ more. rw (w .front) (data-again (description SIDX (length d)) d more (x .fields));
       stored = λ store newest. described-unless store newest SIDX d (w .sent .index) (w .sent .some) (w .sent .few);
       shows = λ book store newest long. stored-shown store newest SIDX d book long;
     }

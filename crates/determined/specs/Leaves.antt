@@ -22,7 +22,7 @@ use Rattle.unit.specs.declared.Part.{Part}
 use Rattle.unit.specs.declared.Unit as U
 use Rattle.unit.specs.declared.Unit.the-variants.{Part as PartUnit}
 use Rattle.unit.specs.declared.Reading.{Reading}
-use Rattle.unit.specs.Layout.{fieldsOf, misspelled, readOf, stringPart, modifiersPart}
+use Rattle.unit.specs.Layout.{fieldsOf, illText, readOf, stringPart, modifiersPart}
 use Rattle.unit.specs.Head.{partHead, headOf}
 use Rattle.unit.specs.Again.{bytesOf}
 use Rattle.boxes.specs.declared.Stepped.{Stepped}
@@ -112,8 +112,8 @@ strings-boundary u s at limit = equation (T.boundary u s at limit)
 pub fields-read-fields : (s : List ℕ) (u kind len : ℕ) → Determines (λ (r : U.Unit). r ≡ fieldsOf s u kind len)
 fields-read-fields s u kind len = equation (fieldsOf s u kind len)
 
-pub texts-misspelled : (rest : List ℕ) (x : U.Unit) → Determines (λ (r : Bool). r ≡ misspelled rest x)
-texts-misspelled rest x = equation (misspelled rest x)
+pub texts-is-ill : (rest : List ℕ) (x : U.Unit) → Determines (λ (r : Bool). r ≡ illText rest x)
+texts-is-ill rest x = equation (illText rest x)
 
 pub reads-read : (rest : List ℕ) → Determines (λ (r : Reading). r ≡ readOf rest)
 reads-read rest = equation (readOf rest)

@@ -15,7 +15,7 @@ use Rattle.paper.specs.declared.Refusal.the-variants as R
 use Rattle.paper.specs.declared.Name.{Name}
 use Rattle.sample.specs.declared.Place.{Place}
 use Rattle.sample.specs.Place.{closed}
-use Rattle.sample.specs.Spelled.{Sane, closed-sane}
+use Rattle.sample.specs.Text.{Sane, closed-sane}
 use Rattle.desk.specs.Desk.{Own}
 use Rattle.memory.specs.declared.Started.the-variants.{Ready, Refused}
 use Rattle.memory.specs.Relay.{Tables, desksOf, placesOf, ownOf, sharesOf, placed, standsAt, putBack, improper, stranger, short}

@@ -17,12 +17,12 @@ use Rattle.unit.specs.declared.Part as P
 use Rattle.unit.specs.declared.Unit.{Unit}
 use Rattle.unit.specs.declared.Unit.the-variants.{End, Skipped, Refused, Whole, Part, Description}
 use Rattle.unit.specs.Layout.{readOf, dataOf}
-use Rattle.unit.specs.Text.{WellSpelled, string-text, read-well}
-use Rattle.unit.specs.Reads.{Counts, Counted, reads-counted}
+use Rattle.unit.specs.Text.{WellText, string-text}
+use Rattle.unit.specs.Reads.{Counts, Counted, reads-counted, read-well}
 use Rattle.sample.specs.declared.Place.{Place}
 use Rattle.sample.specs.Place.{bare, closed, has, agrees, oversize, kept}
 use Rattle.sample.specs.Kept.{Fresh}
-use Rattle.sample.specs.Spelled.{Sane, closed-sane, opened-sane, keep-sane}
+use Rattle.sample.specs.Text.{Sane, closed-sane, opened-sane, keep-sane}
 use Rattle.sample.specs.Repeat.{agrees-of}
 use Rattle.sample.specs.Told.{Name, keep-named}
 use Rattle.style.specs.Store.{noted}
@@ -76,7 +76,7 @@ fresh-part q x d c a b =
     record { from = c .from; to = omega (arith, c .to); new = no-conflict q x a .0; fits = b }
 
 -- the sample that a part belongs to, with the part
-pub part-sane : (p : Place) → Sane p → (desk time : ℕ) (x : P.Part) (d : List ℕ) → Counts x → WellSpelled (Part x) d
+pub part-sane : (p : Place) → Sane p → (desk time : ℕ) (x : P.Part) (d : List ℕ) → Counts x → WellText (Part x) d
     → let q = sampleOf p desk time x in conflicts q x ≡ false → oversize q x (length d) ≡ false → Sane (kept q x d)
 unfolding sampleOf
 part-sane p m desk time x d c w a b =
@@ -153,7 +153,7 @@ module _ (h : Shares) (s : Own) (desk time : ℕ) (named : Named desk time (s .p
         free = λ f. absurd (true≢false (sym (o .0) ∙ sym (ap (λ (n : Name). n .used) e) ∙ f));
       }
 
-  taken-leaves : (used : ℕ) (rest : List ℕ) (x : Unit) → Counted x → WellSpelled x (dataOf rest x) → L (taken h s desk time used rest x)
+  taken-leaves : (used : ℕ) (rest : List ℕ) (x : Unit) → Counted x → WellText x (dataOf rest x) → L (taken h s desk time used rest x)
   unfolding descriptionTaken
   taken-leaves used rest End c k = stay-leaves
   taken-leaves used rest (Skipped t) c k = stay-leaves

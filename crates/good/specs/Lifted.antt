@@ -1,14 +1,17 @@
 -- What every call keeps to, of any tables: a refusal leaves tables and output as they stood, except 10, which frees the place and marks
--- the time; progress; and that tables whose head does not hold 1 to 8 refuse every call. Assumes nothing.
-use Prim.Native.Nat.{ℕ, zero, suc, _≤_, _<_}
+-- the time; 17, exactly; progress; and that tables whose head does not hold 1 to 8 refuse every call. Assumes nothing.
+use Prim.Native.Nat.{ℕ, zero, suc, _+_, _≤_, _<_}
 use native.Mathlib.Nat.{zero-lt-suc}
 use native.Mathlib.Omega.{arith}
-use mathlib.Core.Path.{_≡_, refl, sym, ap, _∙_}
-use mathlib.Core.Bool.{Bool, true}
+use mathlib.Core.Path.{_≡_, refl, sym, ap, ap₂, _∙_}
+use mathlib.Core.Bool.{Bool, true, false}
 use mathlib.Core.Logic.{_⊎_, inl, inr}
 use mathlib.Core.List.{List, []}
 use lib.ListN.{length}
-use Rattle.laws.specs.Rows.{_or_, each, yes, eq}
+use Rattle.laws.specs.Exactly.{Exactly}
+use Rattle.laws.specs.Rows.{_or_, _<?_, each, yes, no, eq}
+use Rattle.octets.specs.Be.{u16At}
+use Rattle.paper.specs.Limits.{sampleMost}
 use Rattle.paper.specs.Words.{numberOf}
 use Rattle.paper.specs.declared.Refusal.{Refusal}
 use Rattle.paper.specs.declared.Refusal.the-variants as R
@@ -18,12 +21,14 @@ use Rattle.paper.specs.declared.Name.{Name}
 use Rattle.unit.specs.declared.Unit.the-variants as U
 use Rattle.unit.specs.declared.Reading.{Reading}
 use Rattle.unit.specs.Layout.{reading, readOf}
+use Rattle.unit.specs.Reads.{seventeen-uses}
 use Rattle.sample.specs.Place.{closed}
 use Rattle.desk.specs.declared.Shares.{Shares}
 use Rattle.desk.specs.declared.GivenUp.the-variants as G
 use Rattle.desk.specs.Desk.{Own, After, Given, says, finish, taken, received, givenUp}
-use Rattle.desk.specs.Effects.{Effect, stays, effects, progress}
-use Rattle.memory.specs.Relay.{Tables, desksOf, placesOf, ownOf, sharesOf, putBack, improper, stranger, ordered, done, settled}
+use Rattle.desk.specs.Effects.{Effect, stays, effects, reader-refuses, refusalNumber, seventeen-read, progress}
+use Rattle.memory.specs.Relay.{Tables, desksOf, placesOf, ownOf, sharesOf, putBack, improper, stranger, lacking, ordered}
+use Rattle.memory.specs.Relay.{Done, done, settled}
 use Rattle.memory.specs.Relay.{receivedAmong, receivedAt, yielded, released, returned, givenUpAmong, givenUpAt, lookedUpAmong, lookedUp}
 use Rattle.memory.specs.Back.{put-same}
 
@@ -53,6 +58,39 @@ module _ (s : Tables) (who : Name) (rest out : List ℕ) (r : Refusal) (e : rece
       let n = desksOf (s .marks) in
       let x = ordered-effect _ (sharesOf n (who .desk) (placesOf n s)) its (who .desk) (who .time) rest r e .0 t in
       (ap (putBack n s (who .desk) (who .time)) x, ap (λ (o : Own). o .out) x)
+
+-- ---- refusal 17: a call that 1 and 2 let through is answered 17 exactly if the reader refuses its unit by 17. The unit's bytes are used,
+-- no time is added, and tables and output stay
+module _ (s : Tables) (who : Name) (rest out : List ℕ) where
+  abbrev n : ℕ
+  n = desksOf (s .marks)
+
+  abbrev pub LetIn : Type 0
+  LetIn = ((stranger n (who .desk) or lacking n s) ≡ false) × ((length out <? sampleMost) ≡ false)
+
+  pub seventeen-is : LetIn → readOf rest .unit ≡ U.Refused R.IllFormed
+      → receivedAt s who rest out ≡ done s out (says (1 + u16At rest 1) (who .time) (O.Refused R.IllFormed))
+  unfolding receivedAmong ordered
+  seventeen-is l e =
+      let o = ownOf n s (who .desk) (who .time) out in
+      let h = sharesOf n (who .desk) (placesOf n s) in
+      ap (settled n s (who .desk) (who .time))
+      (sym (no _ _ (l .0) (no _ _ (l .1) refl)) ∙ reader-refuses h o (who .desk) (who .time) rest R.IllFormed e)
+      ∙ ap₂ (λ (t : Tables) (u : ℕ). done t out (says u (who .time) (O.Refused R.IllFormed)))
+      (put-same n s (who .desk) (who .time) out) (seventeen-uses rest e)
+
+  pub seventeen : Exactly (receivedAt s who rest out .answer .outcome ≡ O.Refused R.IllFormed)
+      (LetIn × (readOf rest .unit ≡ U.Refused R.IllFormed))
+  unfolding receivedAmong ordered
+  seventeen = (
+    each S _ _ _ (λ a e. absurd (omega (arith, ap refusalNumber e)))
+        (λ a. each S _ _ _ (λ b e. absurd (omega (arith, ap refusalNumber e)))
+        (λ b e. ((a, b), seventeen-read _ _ (who .desk) (who .time) rest e))),
+    λ w. ap (λ (d : Done). d .answer .outcome) (seventeen-is (w .0) (w .1)),
+  )
+    where
+      S : After → Type 0
+      S x = x .answer .outcome ≡ O.Refused R.IllFormed → LetIn × (readOf rest .unit ≡ U.Refused R.IllFormed)
 
 -- ---- give-up: refused, all stays; else the place is freed and the time marked
 abbrev Gives : Own → (time : ℕ) → Given → Type 0

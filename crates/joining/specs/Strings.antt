@@ -71,6 +71,6 @@ string-first [] h = refl
 string-first (p ∷ ps) h = let a = and-of _ _ h in string-front p ps (eq-of _ _ (a .0)) (going-first ps (a .1))
 
 -- so it is no longer than the sample
-pub string-within : (ps : List Piece) → ordered (kinds ps) ≡ true → length (stringOf ps) ≤ length (together ps)
-string-within ps h =
+pub string-short : (ps : List Piece) → ordered (kinds ps) ≡ true → length (stringOf ps) ≤ length (together ps)
+string-short ps h =
     omega (arith, ap (length {A = ℕ}) (string-first ps h), length-take (length (stringOf ps)) (together ps))

@@ -17,7 +17,7 @@ use Rattle.unit.specs.declared.Unit.{Unit}
 use Rattle.unit.specs.declared.Unit.the-variants.{End, Skipped, Refused, Whole, Part, Description}
 use Rattle.unit.specs.declared.Reading.{Reading}
 use Rattle.unit.specs.Layout.{fieldsOf, broken, readOf, dataOf}
-use Rattle.unit.specs.Reads.{each-read}
+use Rattle.unit.specs.Reads.{each-unit}
 use Rattle.sample.specs.declared.Place.{Place}
 use Rattle.sample.specs.Place.{bare, agrees, oversize, missing, toldOf, telling, laid, kept, piecesOf}
 use Rattle.sample.specs.Sound.{sound-of}
@@ -44,7 +44,7 @@ fields-slight s U TYPE LEN t =
     (λ q. each Slight _ _ _ (λ q. omega arith) (λ q. each Slight _ _ _ (λ q. tt) (λ q. t)))))
 
 reads-slight : (s : List ℕ) → Slight (readOf s .unit)
-reads-slight s = each-read Slight s tt tt tt tt (λ m l f. fields-slight s _ _ _ (omega arith))
+reads-slight s = each-unit Slight s tt tt tt tt (λ m l f w. fields-slight s _ _ _ (omega arith))
 
 pub reads-far : (s : List ℕ) → 0 < length s → (3 ≤ readOf s .used) ⊎ (readOf s .used ≡ length s)
 unfolding readOf broken

@@ -25,7 +25,7 @@ bears (Whole w) = true
 bears (Part x) = true
 bears (Description w) = false
 
--- it is the first of the rest, and not refused by 2 to 4
+-- it is the first of the rest, and not refused by 2 to 4 or 17
 abbrev pub offers : (rest out : List ℕ) → Bool
 offers rest out = length out <? sampleMost ⇒ false ⁏ bears (readOf rest .unit)
 

@@ -15,7 +15,7 @@ use Rattle.paper.specs.declared.Outcome.{Outcome}
 use Rattle.paper.specs.declared.Outcome.the-variants as O
 use Rattle.text.specs.Chart.{chart, within, follows, charted}
 use Rattle.text.specs.Unicode.{character, wellFormed, wellWithin, reach, reachWithin}
-use Rattle.unit.specs.Layout.{readOf, broken, judged, fieldsOf, least, badPart, badWhole, spelled, misspelled}
+use Rattle.unit.specs.Layout.{readOf, broken, judged, fieldsOf, least, badPart, badWhole, textJudged, illText}
 use Rattle.joining.specs.Joining as J
 use Rattle.unit.specs.Head.{partHead}
 use Rattle.writer.specs.Cut.{cuts, cutsWithin, modified, pieces}
@@ -141,7 +141,7 @@ pub record Meets (c : Caption) (M : ℕ) (xs : List Call) : Type 0 where
   pub soon : AllSoon c M 5 start xs (alone freshView xs)
 
 meets : (desk : ℕ) → Meets hi 19 (calls desk) × Meets plain 14 (whole-calls desk) × Meets abc 17 (three-calls desk)
-unfolding _⇒_⁏_ _<?_ _=?_ readOf broken judged spelled misspelled fieldsOf least badPart badWhole bare outside has agrees stands repeats
+unfolding _⇒_⁏_ _<?_ _=?_ readOf broken judged textJudged illText fieldsOf least badPart badWhole bare outside has agrees stands repeats
     oversize toldOf telling laid kept missing piecesIn piecesOf among laterPart sampleOf conflicts six usedUp completed joining
     wholeTaken received ordered ones movedRow markedRow markedUsed J.laters J.going J.ordered J.sound flatten asksPart same givenUp
     yielded awaited count long pieces modified cuts cutsWithin reach reachWithin wellFormed wellWithin character chart within
@@ -268,7 +268,7 @@ hears x = answered (says 12 5 x) blank
 
 -- fifteen samples later it is late, and sixteen later it opens the sample anew
 pub sharp-edge : (getD (alone freshView (run-with 15)) 17 (shown []) ≡ hears (O.Refused R.Late)) × (getD (alone freshView (run-with 16)) 18 (shown []) ≡ hears (O.Kept 1))
-unfolding _⇒_⁏_ _<?_ _=?_ readOf broken judged spelled misspelled fieldsOf least badPart badWhole bare outside has agrees stands repeats
+unfolding _⇒_⁏_ _<?_ _=?_ readOf broken judged textJudged illText fieldsOf least badPart badWhole bare outside has agrees stands repeats
     oversize toldOf telling laid kept missing piecesIn piecesOf among laterPart sampleOf conflicts six usedUp completed joining
     wholeTaken received ordered ones movedRow markedRow markedUsed J.laters J.going J.ordered J.sound flatten wellFormed wellWithin
     character chart within follows charted

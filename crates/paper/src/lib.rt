@@ -1,4 +1,4 @@
-// The vocabulary of document 01: its refusals, its limits, and what a call answers.
+// The vocabulary of document 01, with the refusals of the requests that landed: refusals, limits, and what a call answers.
 pub mod limits;
 
 ghost use mathlib.Core.Path.{_≡_};

@@ -16,7 +16,7 @@ use Rattle.paper.specs.declared.Outcome.{Outcome}
 use Rattle.paper.specs.declared.Outcome.the-variants as O
 use Rattle.text.specs.Chart.{chart, within, follows, charted}
 use Rattle.text.specs.Unicode.{character, wellFormed, wellWithin}
-use Rattle.unit.specs.Layout.{readOf, broken, judged, spelled, misspelled, fieldsOf, least, badPart}
+use Rattle.unit.specs.Layout.{readOf, broken, judged, textJudged, illText, fieldsOf, least, badPart}
 use Rattle.joining.specs.Joining as J
 use Rattle.sample.specs.Place.{bare, outside, has, agrees, stands, repeats, oversize, toldOf, telling, laid, kept, missing, piecesIn}
 use Rattle.sample.specs.Place.{piecesOf}
@@ -93,7 +93,7 @@ Crowded s =
 
 -- alone, the quiet desk has none open at its first call and one at its second, and its others ask for no place
 computed : Peaceful (exactTables 2) × (Crowded (exactTables 2) × (Frugal freshView (quiet 7) × (alone freshView (quiet 7) ≡ quiet-gets)))
-unfolding _⇒_⁏_ _<?_ _=?_ readOf broken judged spelled misspelled fieldsOf least badPart bare outside has agrees stands repeats oversize
+unfolding _⇒_⁏_ _<?_ _=?_ readOf broken judged textJudged illText fieldsOf least badPart bare outside has agrees stands repeats oversize
     toldOf telling laid kept missing piecesIn piecesOf among laterPart sampleOf conflicts six usedUp completed joining received
     standsAt improper stranger short ownMarks ordered receivedAmong ones markedRow markedUsed givenUp yielded givenUpAmong J.laters
     J.going J.ordered J.sound flatten asksPart wellFormed wellWithin character chart within follows charted

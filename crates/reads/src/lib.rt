@@ -8,7 +8,7 @@ use unit::Reading;
 use unit::Unit;
 use unit::Whole;
 ghost use mathlib.Core.Path.{_≡_};
-ghost use Rattle.unit.specs.Layout.{least, badWhole, badPart, badDescription, badFields, broken, judged, spelled, readOf};
+ghost use Rattle.unit.specs.Layout.{least, badWhole, badPart, badDescription, badFields, broken, judged, textJudged, readOf};
 
 fn least_len(kind: usize) -> usize
     ensures { λ r. ⌜ r ≡ least kind ⌝ }
@@ -112,10 +112,10 @@ fn judge(kind: usize, len: usize, x: Unit) -> Unit
     x
 }
 
-fn spell(rest: &[u8], x: Unit) -> Unit
-    ensures { λ r. ⌜ r ≡ spelled (now (rest .entry)) x ⌝ }
+fn judge_text(rest: &[u8], x: Unit) -> Unit
+    ensures { λ r. ⌜ r ≡ textJudged (now (rest .entry)) x ⌝ }
 {
-    if texts::misspelled(rest, x) {
+    if texts::is_ill(rest, x) {
         return Unit::Refused(Refusal::IllFormed);
     }
     x
@@ -144,6 +144,6 @@ pub fn read(rest: &[u8]) -> Reading
     let x = judge(kind, len, fields::read_fields(rest, head / 128, kind, len));
     Reading {
         used: 1 + len,
-        unit: spell(rest, x),
+        unit: judge_text(rest, x),
     }
 }

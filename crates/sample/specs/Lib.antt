@@ -12,4 +12,4 @@ pub mod Arrival
 pub mod Missing
 pub mod Filled
 pub mod Sound
-pub mod Spelled
+pub mod Text

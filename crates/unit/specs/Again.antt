@@ -14,26 +14,27 @@ use Rattle.paper.specs.Limits.{durations, inBand, reserved, partsMost}
 use Rattle.unit.specs.declared.Unit.{Unit}
 use Rattle.unit.specs.declared.Unit.the-variants.{Part}
 use Rattle.unit.specs.Layout.{whole, stringPart, modifiersPart, description, fieldsOf, least, badWhole, badPart, badDescription}
-use Rattle.unit.specs.Layout.{badFields, dataOf, reading, broken, judged, judgedOf, spelled, misspelled, readOf}
-use Rattle.unit.specs.Text.{WellSpelled, well-spelled}
+use Rattle.unit.specs.Layout.{badFields, dataOf, reading, broken, judged, judgedOf, textJudged, illText, readOf}
+use Rattle.unit.specs.Text.{WellText, text-passes}
 use Rattle.unit.specs.Head.{front, counts, headOf, string-head, modifiers-head}
 
 -- ---- the units that can be sent, each with its data
 -- every number fits its field and keeps to the limits of refusal 4
-pub data Fit : Unit → List ℕ → Type 0 where
+pub data FitsFields : Unit → List ℕ → Type 0 where
   whole-unit : {U SIDX SDUR TLEN : ℕ} {d : List ℕ} → U < 2 → SIDX < reserved → SDUR < durations → TLEN ≤ length d → length d + 8 < 65536
-      → Fit (whole U SIDX SDUR TLEN (length d)) d
+      → FitsFields (whole U SIDX SDUR TLEN (length d)) d
   string-unit : {U TOTAL THIS SDUR SIDX SLEN : ℕ} {d : List ℕ} → U < 2 → 0 < THIS → THIS ≤ TOTAL → TOTAL ≤ partsMost → SDUR < durations
       → SIDX < reserved → SLEN < 65536 → 0 < length d → length d + 9 < 65536
-      → Fit (Part (stringPart U TOTAL THIS SDUR SIDX SLEN (length d))) d
+      → FitsFields (Part (stringPart U TOTAL THIS SDUR SIDX SLEN (length d))) d
   modifiers-unit : {TYPE TOTAL THIS SDUR : ℕ} {d : List ℕ} → (TYPE ≡ 3) ⊎ (TYPE ≡ 4) → 0 < THIS → THIS ≤ TOTAL → TOTAL ≤ partsMost
-      → SDUR < durations → 0 < length d → length d + 6 < 65536 → Fit (Part (modifiersPart TYPE TOTAL THIS SDUR (length d))) d
-  description-unit : {SIDX : ℕ} {d : List ℕ} → SIDX < inBand → 0 < length d → length d + 3 < 65536 → Fit (description SIDX (length d)) d
+      → SDUR < durations → 0 < length d → length d + 6 < 65536 → FitsFields (Part (modifiersPart TYPE TOTAL THIS SDUR (length d))) d
+  description-unit : {SIDX : ℕ} {d : List ℕ} → SIDX < inBand → 0 < length d → length d + 3 < 65536
+      → FitsFields (description SIDX (length d)) d
 
 -- and the text is well-formed
 pub record Proper (x : Unit) (d : List ℕ) : Type 0 where
-  pub fit : Fit x d
-  pub text : WellSpelled x d
+  pub fields : FitsFields x d
+  pub text : WellText x d
 
 -- the bytes of a unit with its data
 abbrev pub bytesOf : Unit → List ℕ → List ℕ
@@ -58,7 +59,7 @@ one x h = omega arith
 -- ---- the frame and the order of answers, once for every TYPE: r is what stands behind LEN
 framed : (U TYPE LEN used : ℕ) (r : List ℕ) (x : Unit) → U < 2 → TYPE < 8 → LEN < 65536 → LEN ≤ 2 + length r → used ≡ 1 + LEN
     → least TYPE ≤ LEN → 2 ≤ least TYPE → badFields x ≡ false → fieldsOf (front U TYPE LEN ++ r) U TYPE LEN ≡ x
-    → readOf (front U TYPE LEN ++ r) ≡ reading used (spelled (front U TYPE LEN ++ r) x)
+    → readOf (front U TYPE LEN ++ r) ≡ reading used (textJudged (front U TYPE LEN ++ r) x)
 unfolding readOf broken judged
 framed U TYPE LEN used r x hu ht hm hr q hk hl hf e =
     let a : (U % 2 * 128 + TYPE) / 128 ≡ U = omega arith in
@@ -67,7 +68,7 @@ framed U TYPE LEN used r x hu ht hm hr q hk hl hf e =
     (no _ _ (ne _ _ (λ h. omega arith))
     (no _ _ (sym (no _ _ (ge _ _ (omega arith)) (no _ _ (ge _ _ (omega arith)) (sym (ge _ _ (omega arith))))))
     (rw (a, b, two LEN hm, e, q)
-    (ap (λ (y : Unit). reading (1 + LEN) (spelled (front U TYPE LEN ++ r) y)) (no _ _ (ge _ _ hk) (no _ _ hf refl))))))
+    (ap (λ (y : Unit). reading (1 + LEN) (textJudged (front U TYPE LEN ++ r) y)) (no _ _ (ge _ _ hk) (no _ _ hf refl))))))
 
 -- the least LEN, row by row
 pub leasts : (least 1 ≡ 8) × (least 2 ≡ 10) × (least 3 ≡ 7) × (least 4 ≡ 7) × (least 5 ≡ 4)
@@ -80,7 +81,7 @@ counted TOTAL THIS SIDX h1 h2 hi =
     sym (no _ _ (ne _ _ (λ h. omega arith)) (no _ _ (ne _ _ (λ h. omega arith)) (no _ _ (ge _ _ h2) (sym (ne _ _ (λ h. omega arith))))))
 
 -- ---- the data of a unit that was read is what was sent as its data
-pub data-again : (x : Unit) (d more : List ℕ) → Fit x d → dataOf (bytesOf x d ++ more) x ≡ d
+pub data-again : (x : Unit) (d more : List ℕ) → FitsFields x d → dataOf (bytesOf x d ++ more) x ≡ d
 data-again x d more (whole-unit hu hi hs ht hl) = take-at d more (length d) refl
 data-again x d more (string-unit {U} {TOTAL} {THIS} {SDUR} {SIDX} {SLEN} hu h1 h2 h3 hs hi hl hd hn) =
     rw (string-head (stringPart U TOTAL THIS SDUR SIDX SLEN (length d)) refl) (take-at d more (length d) refl)
@@ -90,17 +91,17 @@ data-again x d more (modifiers-unit {TYPE} {TOTAL} {THIS} {SDUR} ht h1 h2 h3 hs 
 data-again x d more (description-unit hi hd hn) = take-at d more (length d) refl
 
 -- ---- a unit that fits reaches 17, one case a TYPE: where its numbers stand, and that they pass its limits
-pub fit-again : (x : Unit) (d more : List ℕ) → Fit x d
-    → readOf (bytesOf x d ++ more) ≡ reading (length (bytesOf x d)) (spelled (bytesOf x d ++ more) x)
+pub fields-again : (x : Unit) (d more : List ℕ) → FitsFields x d
+    → readOf (bytesOf x d ++ more) ≡ reading (length (bytesOf x d)) (textJudged (bytesOf x d ++ more) x)
 unfolding fieldsOf badWhole badPart badDescription
-fit-again x d more (whole-unit {U} {SIDX} {SDUR} {TLEN} hu hi hs ht hl) =
+fields-again x d more (whole-unit {U} {SIDX} {SDUR} {TLEN} hu hi hs ht hl) =
     let n = length d in
     let z : n + 8 - 8 ≡ n = omega arith in
     framed U 1 (n + 8) _ (SIDX % 256 ∷ be24 SDUR ++ be16 TLEN ++ d ++ more) (whole U SIDX SDUR TLEN n)
     hu (omega arith) hl (omega (arith, length-append d more)) (omega arith) (omega (arith, leasts)) (omega (arith, leasts))
     (sym (no _ _ (ge _ _ ht) (sym (ne _ _ (λ h. omega arith)))))
     (sym (yes _ _ (eq _ _ refl) (rw (three SDUR hs, two TLEN (omega arith), one SIDX (omega arith), z))))
-fit-again x d more (string-unit {U} {TOTAL} {THIS} {SDUR} {SIDX} {SLEN} hu h1 h2 h3 hs hi hl hd hn) =
+fields-again x d more (string-unit {U} {TOTAL} {THIS} {SDUR} {SIDX} {SLEN} hu h1 h2 h3 hs hi hl hd hn) =
     let n = length d in
     let z : n + 9 - 9 ≡ n = omega arith in
     rw (string-head (stringPart U TOTAL THIS SDUR SIDX SLEN n) refl)
@@ -111,7 +112,7 @@ fit-again x d more (string-unit {U} {TOTAL} {THIS} {SDUR} {SIDX} {SLEN} hu h1 h2
     (no _ _ (ne _ _ (λ h. omega arith))
     (yes _ _ (eq _ _ refl)
     (rw (high TOTAL THIS (omega arith), low TOTAL THIS (omega arith), three SDUR hs, two SLEN hl, one SIDX (omega arith), z))))))
-fit-again x d more (modifiers-unit {TYPE} {TOTAL} {THIS} {SDUR} ht h1 h2 h3 hs hd hn) =
+fields-again x d more (modifiers-unit {TYPE} {TOTAL} {THIS} {SDUR} ht h1 h2 h3 hs hd hn) =
     let n = length d in
     let z : n + 6 - 6 ≡ n = omega arith in
     let l : least TYPE ≡ 7 = ⊎-elim (λ k. rw k (leasts .2)) (λ k. rw k (leasts .3)) ht in
@@ -129,7 +130,7 @@ fit-again x d more (modifiers-unit {TYPE} {TOTAL} {THIS} {SDUR} ht h1 h2 h3 hs h
     (λ k. yes _ _ (eq _ _ k) (rw (a, b, three SDUR hs, z, k)))
     (λ k. no _ _ (ne _ _ (λ q. omega arith)) (yes _ _ (eq _ _ k) (rw (a, b, three SDUR hs, z, k))))
     ht)))))
-fit-again x d more (description-unit {SIDX} hi hd hn) =
+fields-again x d more (description-unit {SIDX} hi hd hn) =
     let n = length d in
     let z : n + 3 - 3 ≡ n = omega arith in
     framed 0 5 (n + 3) _ (SIDX % 256 ∷ d ++ more) (description SIDX n)
@@ -145,9 +146,9 @@ fit-again x d more (description-unit {SIDX} hi hd hn) =
 -- ---- the law: a proper one passes it
 pub unit-again : (x : Unit) (d more : List ℕ) → Proper x d → readOf (bytesOf x d ++ more) ≡ reading (length (bytesOf x d)) x
 unit-again x d more p =
-    fit-again x d more (p .fit)
+    fields-again x d more (p .fields)
     ∙ ap (reading (length (bytesOf x d)))
-    (well-spelled (bytesOf x d ++ more) x (rw (data-again x d more (p .fit)) (p .text)))
+    (text-passes (bytesOf x d ++ more) x (rw (data-again x d more (p .fields)) (p .text)))
 
 -- ---- what is ignored: the R bits, and U in every TYPE but 1 and 2
 -- byte 0 is not in the data
@@ -165,7 +166,7 @@ same-data b c s =
 
 pub ignored : (b c : ℕ) (s : List ℕ) → b % 8 ≡ c % 8 → (b / 128 ≡ c / 128) ⊎ ((b % 8 ≡ 1 → ⊥) × (b % 8 ≡ 2 → ⊥))
     → readOf (b ∷ s) ≡ readOf (c ∷ s)
-unfolding readOf broken fieldsOf judged misspelled spelled
+unfolding readOf broken fieldsOf judged illText textJudged
 ignored b c s e h =
     let f : fieldsOf (b ∷ s) (b / 128) (b % 8) (u16At (b ∷ s) 1) ≡ fieldsOf (b ∷ s) (c / 128) (b % 8) (u16At (b ∷ s) 1) =
     ⊎-elim

@@ -1,5 +1,5 @@
--- The converse of 'unit again', for a rest of bytes: a unit that is read is a proper one, one that reaches 17 fits, and put down again it
--- gives the bytes that were used, but for the bits that are ignored. Assumes nothing.
+-- The converse of 'unit again', for a rest of bytes: a unit that is read is a proper one, what 4 lets through fits its fields, and put down
+-- again it gives the bytes that were used, but for the bits that are ignored. Assumes nothing.
 use Prim.Native.Nat.{ℕ, zero, suc, _+_, _-_, _*_, _/_, _%_, _<_, _≤_}
 use native.Mathlib.Omega.{arith}
 use mathlib.Core.Path.{_≡_, refl, sym, ap, _∙_}
@@ -17,11 +17,10 @@ use Rattle.unit.specs.declared.Unit.the-variants.{End, Skipped, Refused,
 use Rattle.unit.specs.declared.Reading.{Reading}
 use Rattle.unit.specs.Layout.{whole, stringPart, modifiersPart, description, wholeAt, stringAt, modifiersAt, descriptionAt}
 use Rattle.unit.specs.Layout.{fieldsOf, fieldsAt}
-use Rattle.unit.specs.Layout.{least, badWhole, badPart, badDescription, badFields, dataOf, reading, broken, judged, judgedOf, readOf}
-use Rattle.unit.specs.Text.{spelled-each, read-well}
+use Rattle.unit.specs.Layout.{least, badWhole, badPart, badDescription, badFields, dataOf, reading, readOf}
 use Rattle.unit.specs.Head.{front, counts, headOf, string-head, modifiers-head}
-use Rattle.unit.specs.Again.{Fit, Proper, whole-unit, string-unit, modifiers-unit, description-unit, bytesOf, leasts, ignored}
-use Rattle.unit.specs.Reads.{reads-uses}
+use Rattle.unit.specs.Again.{FitsFields, Proper, whole-unit, string-unit, modifiers-unit, description-unit, bytesOf, leasts, ignored}
+use Rattle.unit.specs.Reads.{each-read, reads-uses, read-well}
 
 -- ---- what is ignored: R, and U in TYPE 3, 4 and 5
 -- byte 0 with the ignored bits as 0
@@ -53,7 +52,7 @@ endOf (Description w) = w .start + w .len
 
 -- a reading that leads back to the rest it was read from
 pub record Back (s : List ℕ) (r : Reading) : Type 0 where
-  pub fit : Fit (r .unit) (dataOf s (r .unit))
+  pub fields : FitsFields (r .unit) (dataOf s (r .unit))
   pub ends : r .used ≡ endOf (r .unit)
   pub again : bytesOf (r .unit) (dataOf s (r .unit)) ≡ take (r .used) (plainly s)
 
@@ -135,7 +134,7 @@ cons : {x y : ℕ} {c d : List ℕ} → x ≡ y → c ≡ d → _≡_ {A = List 
 cons p q = cc
 
 -- a unit whose data is as long as it says
-sized : (f : ℕ → Unit) {d : List ℕ} {n : ℕ} → length d ≡ n → Fit (f (length d)) d → Fit (f n) d
+sized : (f : ℕ → Unit) {d : List ℕ} {n : ℕ} → length d ≡ n → FitsFields (f (length d)) d → FitsFields (f n) d
 sized f e p = rw (← e) p
 
 module _ (s : List ℕ) (b : Bytes s) where
@@ -159,7 +158,7 @@ module _ (s : List ℕ) (b : Bytes s) where
         let d : length (part 9 n s) ≡ n = length-part 9 n s (omega arith) in
         let g = or-none _ _ f in
         record {
-          fit = sized (whole (u8At s 0 / 128) _ _ _) d
+          fields = sized (whole (u8At s 0 / 128) _ _ _) d
               (whole-unit (omega (arith, b 0)) (omega (arith, b 3, ne-of _ _ (g .1))) (omega (arith, b 4, b 5, b 6))
               (omega (arith, ge-of _ _ (g .0))) (omega (arith, b 1, b 2)));
           ends = omega arith;
@@ -180,7 +179,7 @@ module _ (s : List ℕ) (b : Bytes s) where
         let h = or-none _ _ (g .1) in
         let i = or-none _ _ (h .1) in
         record {
-          fit = sized (λ m. Part (w m)) d
+          fields = sized (λ m. Part (w m)) d
               (string-unit (omega (arith, b 0)) (omega (arith, ne-of _ _ (h .0))) (ge-of _ _ (i .0)) (omega (arith, b 3))
               (omega (arith, b 4, b 5, b 6)) (omega (arith, b 7, ne-of _ _ (i .1))) (omega (arith, b 8, b 9)) (omega arith)
               (omega (arith, b 1, b 2)));
@@ -206,7 +205,7 @@ module _ (s : List ℕ) (b : Bytes s) where
         let least : 3 ≤ TYPE = ⊎-elim (λ k. omega arith) (λ k. omega arith) o in
         let most : TYPE ≤ 4 = ⊎-elim (λ k. omega arith) (λ k. omega arith) o in
         record {
-          fit = sized (λ m. Part (w m)) d
+          fields = sized (λ m. Part (w m)) d
               (modifiers-unit o (omega (arith, ne-of _ _ (h .0))) (ge-of _ _ (i .0)) (omega (arith, b 3)) (omega (arith, b 4, b 5, b 6))
               (omega arith) (omega (arith, b 1, b 2)));
           ends = omega arith;
@@ -224,7 +223,7 @@ module _ (s : List ℕ) (b : Bytes s) where
         let n = u16At s 1 - 3 in
         let d : length (part 4 n s) ≡ n = length-part 4 n s (omega arith) in
         record {
-          fit = sized (description _) d (description-unit (omega (arith, ge-of _ _ f)) (omega arith) (omega (arith, b 1, b 2)));
+          fields = sized (description _) d (description-unit (omega (arith, ge-of _ _ f)) (omega arith) (omega (arith, b 1, b 2)));
           ends = omega arith;
           again = body-back (1 + u16At s 1) 3 n (descriptionAt s (u16At s 1))
               (join (front-back 0 5 (n + 3) (rw (plain-bare (u8At s 0) (omega arith) (omega arith)) (omega arith)) (omega arith))
@@ -233,7 +232,7 @@ module _ (s : List ℕ) (b : Bytes s) where
         }
 
     -- TYPE by TYPE
-    fields-back : least (u8At s 0 % 8) ≤ u16At s 1
+    pub fields-back : least (u8At s 0 % 8) ≤ u16At s 1
         → badFields (fieldsAt s) ≡ false
         → HasData (fieldsAt s)
         → Back s (reading (1 + u16At s 1) (fieldsAt s))
@@ -253,27 +252,15 @@ module _ (s : List ℕ) (b : Bytes s) where
         at-least TYPE t = rw (← t) l
 
 -- ---- the laws
--- a unit that 1 to 3 and 4 let through fits, whatever 17 says
-pub judged-back : (s : List ℕ) → Bytes s → broken s ≡ false → HasData (judgedOf s) → Back s (reading (1 + u16At s 1) (judgedOf s))
-unfolding broken judged
-judged-back s b k =
-    let m = ge-of _ _ (or-none _ _ (or-none _ _ k .1) .1) in
-    each P _ _ _ (λ l h. absurd h) (λ l. each P _ _ _ (λ f h. absurd h) (λ f h. fields-back s b m (ge-of _ _ l) f h))
-  where
-    P : Unit → Type 0
-    P x = HasData x → Back s (reading (1 + u16At s 1) x)
-
 reads-back : (s : List ℕ) → Bytes s → HasData (readOf s .unit) → Back s (readOf s)
-unfolding readOf
 reads-back s b =
-    each (λ (r : Reading). HasData (r .unit) → Back s r) _ _ _ (λ q h. absurd h)
-    (λ q. each (λ (r : Reading). HasData (r .unit) → Back s r) _ _ _ (λ k h. absurd h)
-    (λ k. spelled-each (λ x. HasData x → Back s (reading (1 + u16At s 1) x)) s _ (λ h. absurd h) (λ w. judged-back s b k)))
+    each-read (λ (r : Reading). HasData (r .unit) → Back s r) s (λ z h. absurd h) (λ k h. absurd h) (λ k m h. absurd h)
+    (λ k m l f w h. absurd h) (λ k m l f w. fields-back s b m l f)
 
 module _ (s : List ℕ) (b : Bytes s) (h : HasData (readOf s .unit)) where
   -- what is read is a proper unit with its data
   pub read-proper : Proper (readOf s .unit) (dataOf s (readOf s .unit))
-  read-proper = record { fit = reads-back s b h .fit; text = read-well s }
+  read-proper = record { fields = reads-back s b h .fields; text = read-well s }
 
   -- the bytes used end where its data ends, and that is in the rest
   pub read-ends : (readOf s .used ≡ endOf (readOf s .unit)) × (readOf s .used ≤ length s)

@@ -115,8 +115,8 @@ encodingOf (Whole w) = w .u
 encodingOf (Part w) = w .u
 encodingOf (Description w) = 0
 
-unfoldable pub misspelled : List ℕ → Unit → Bool
-misspelled s x = not (wellFormed (encodingOf x) (textOf x (dataOf s x)))
+unfoldable pub illText : List ℕ → Unit → Bool
+illText s x = not (wellFormed (encodingOf x) (textOf x (dataOf s x)))
 
 -- ---- the order of answers
 abbrev pub reading : ℕ → Unit → Reading
@@ -140,14 +140,14 @@ fieldsAt s = fieldsOf s (u8At s 0 / 128) (u8At s 0 % 8) (u16At s 1)
 abbrev pub judgedOf : List ℕ → Unit
 judgedOf s = judged (u8At s 0 % 8) (u16At s 1) (fieldsAt s)
 
--- x is what 4 let through, or its refusal
-unfoldable pub spelled : List ℕ → Unit → Unit
-spelled s x =
-    misspelled s x ⇒ Refused IllFormed
+-- x is what 4 left of the unit
+unfoldable pub textJudged : List ℕ → Unit → Unit
+textJudged s x =
+    illText s x ⇒ Refused IllFormed
     ⁏ x
 
 unfoldable pub readOf : List ℕ → Reading
 readOf s =
     length s =? 0 ⇒ reading 0 End
     ⁏ broken s ⇒ reading (length s) (Refused Frame)
-    ⁏ reading (1 + u16At s 1) (spelled s (judgedOf s))
+    ⁏ reading (1 + u16At s 1) (textJudged s (judgedOf s))

@@ -1,5 +1,5 @@
--- The twelve cases of document 01, 'Worked by hand', as one list, and one statement over it: each holds of the definitions that the
--- promises of set-up, receive, lookup and the writer cite. Assumes nothing.
+-- The twelve cases of document 01, 'Worked by hand', and those of request 1 of document 02, as lists, and one statement over both: each
+-- holds of the definitions that the promises of set-up, receive, give-up, lookup and the writer cite. Assumes nothing.
 use Prim.Native.Nat.{ℕ}
 use native.Mathlib.Omega.{arith}
 use mathlib.Core.Path.{_≡_, refl, sym, subst}
@@ -14,7 +14,7 @@ use Rattle.paper.specs.declared.Outcome.{Outcome}
 use Rattle.paper.specs.declared.Outcome.the-variants as O
 use Rattle.text.specs.Chart.{chart, within, follows, charted, unitAt, paired}
 use Rattle.text.specs.Unicode.{character, wellFormed, wellWithin, reach, reachWithin}
-use Rattle.unit.specs.Layout.{readOf, broken, judged, fieldsOf, least, badPart, badWhole, spelled, misspelled}
+use Rattle.unit.specs.Layout.{readOf, broken, judged, fieldsOf, least, badPart, badWhole, textJudged, illText}
 use Rattle.unit.specs.Head.{partHead}
 use Rattle.joining.specs.Joining as J
 use Rattle.sample.specs.Place.{bare, outside, has, agrees, stands, repeats, oversize, toldOf, telling, laid, kept, missing, piecesIn}
@@ -167,25 +167,45 @@ case-17-halves =
     plays 1 (euro 0x0B 0x21 (0xE2 ∷ 0x82 ∷ []) ∷ euro 0x0A 0x22 (0xAC ∷ []) ∷ give-up 0 5 ∷ [])
     (hears 12 5 (O.Refused R.IllFormed) ∷ hears 11 5 (O.Refused R.IllFormed) ∷ released (G.Refused R.NotOpen) ∷ [])
 
--- a bad string at a finished time is 17 and not late; with U 1 the same letters are an odd length; behind TLEN nothing is looked at
-abbrev one : (head TLEN : ℕ) → List ℕ
-one head TLEN = head ∷ 0x00 ∷ 0x09 ∷ 0x80 ∷ 0x00 ∷ 0x00 ∷ 0x01 ∷ 0x00 ∷ TLEN ∷ 0xFF ∷ []
+-- a sample of these bytes, the first TLEN of them its string; byte 0 is U and TYPE 1, SDUR 1
+abbrev text : (head LEN TLEN : ℕ) → List ℕ → List ℕ
+text head LEN TLEN d = head ∷ 0x00 ∷ LEN ∷ 0x80 ∷ 0x00 ∷ 0x00 ∷ 0x01 ∷ 0x00 ∷ TLEN ∷ d
 
+-- behind TLEN nothing is looked at; at a time that is finished a good string is late, and a bad one 17, which adds nothing
 abbrev case-17-late : Case
 case-17-late =
-    plays 1 (at 0 7 (one 0x01 0) ∷ at 0 7 (one 0x01 0) ∷ at 0 7 (one 0x01 1) ∷ at 0 8 (one 0x81 1) ∷ [])
-    (handed 10 8 (O.Whole (facts 7 0 128 1 0 1)) (0xFF ∷ []) ∷ hears 10 8 (O.Refused R.Late) ∷ hears 10 7 (O.Refused R.IllFormed)
-    ∷ hears 10 8 (O.Refused R.IllFormed) ∷ [])
+    plays 1 (at 0 7 (text 0x01 9 0 (0xFF ∷ [])) ∷ at 0 7 (text 0x01 9 0 (0xFF ∷ [])) ∷ at 0 7 (text 0x01 9 1 (0xFF ∷ [])) ∷ [])
+    (handed 10 8 (O.Whole (facts 7 0 128 1 0 1)) (0xFF ∷ []) ∷ hears 10 8 (O.Refused R.Late) ∷ hears 10 7 (O.Refused R.IllFormed) ∷ [])
 
-abbrev pub cases : List Case
-cases =
+-- U says how: 'A' is a string of UTF-8 and an odd length of UTF-16; D8 80 is a letter of UTF-8 and half a pair of UTF-16, and D8 3D DE 00 a
+-- pair of UTF-16 and none of UTF-8
+abbrev case-17-other : Case
+case-17-other =
+    plays 1
+    (at 0 1 (text 0x01 9 1 (0x41 ∷ [])) ∷ at 0 2 (text 0x81 9 1 (0x41 ∷ [])) ∷ at 0 3 (text 0x01 10 2 (0xD8 ∷ 0x80 ∷ []))
+    ∷ at 0 4 (text 0x81 10 2 (0xD8 ∷ 0x80 ∷ [])) ∷ at 0 5 (text 0x81 12 4 (0xD8 ∷ 0x3D ∷ 0xDE ∷ 0x00 ∷ []))
+    ∷ at 0 6 (text 0x01 12 4 (0xD8 ∷ 0x3D ∷ 0xDE ∷ 0x00 ∷ [])) ∷ [])
+    (handed 10 2 (O.Whole (facts 1 0 128 1 1 1)) (0x41 ∷ []) ∷ hears 10 2 (O.Refused R.IllFormed)
+    ∷ handed 11 4 (O.Whole (facts 3 0 128 1 2 2)) (0xD8 ∷ 0x80 ∷ []) ∷ hears 11 4 (O.Refused R.IllFormed)
+    ∷ handed 13 6 (O.Whole (facts 5 1 128 1 4 4)) (0xD8 ∷ 0x3D ∷ 0xDE ∷ 0x00 ∷ []) ∷ hears 13 6 (O.Refused R.IllFormed) ∷ [])
+
+-- of TYPE 3 nothing is looked at: FF is kept
+abbrev case-17-modifiers : Case
+case-17-modifiers =
+    plays 1 (at 0 5 (0x03 ∷ 0x00 ∷ 0x07 ∷ 0x22 ∷ 0x00 ∷ 0x00 ∷ 0x64 ∷ 0xFF ∷ []) ∷ []) (hears 8 105 (O.Kept 1) ∷ [])
+
+-- ---- the cases of document 01, and those of request 1
+abbrev pub cases-01 : List Case
+cases-01 =
     case-1 ∷ case-2 ∷ case-3 ∷ case-4 ∷ case-5 ∷ case-6 ∷ case-7-8 ∷ case-8-7
     ∷ case-9-74 ∷ case-9-75
     ∷ case-10
     ∷ case-11 1 0x21 ∷ case-11 2 0x22 ∷ case-11-whole
     ∷ case-12 ∷ case-12-refused
-    ∷ case-17-long ∷ case-17-halves ∷ case-17-late
     ∷ []
+
+abbrev pub cases-17 : List Case
+cases-17 = case-17-long ∷ case-17-halves ∷ case-17-late ∷ case-17-other ∷ case-17-modifiers ∷ []
 
 -- ---- what the rules compute to in the memory that set-up makes
 abbrev gets : (desks : ℕ) → List Call → List Got
@@ -206,7 +226,7 @@ so (writes many M k w out) (inl e) = e
 
 -- cases 1 and 5, which no relay plays that refuses everything or has a constant answer
 one-and-five : Computes case-1 × Computes case-5
-unfolding _⇒_⁏_ _<?_ _=?_ readOf broken judged spelled misspelled fieldsOf least badPart badWhole bare outside has agrees stands repeats
+unfolding _⇒_⁏_ _<?_ _=?_ readOf broken judged textJudged illText fieldsOf least badPart badWhole bare outside has agrees stands repeats
     oversize toldOf telling laid kept missing piecesIn piecesOf among laterPart sampleOf conflicts six usedUp wholeTaken completed
     joining received standsAt improper stranger short ownMarks ordered receivedAmong ones markedRow markedUsed J.laters J.going
     J.ordered J.sound flatten partHead written count uncut unwritable illFormed unsized wellFormed wellWithin long partUnit
@@ -226,34 +246,36 @@ all-so : (cs : List Case) → AllHold cs → All cs
 all-so [] e = tt
 all-so (c ∷ cs) e = (so c (e .0), all-so cs (e .1))
 
-each-holds : AllHold cases
-unfolding _⇒_⁏_ _<?_ _=?_ readOf broken judged spelled misspelled fieldsOf least badPart badWhole bare outside has agrees stands repeats
+each-holds : AllHold cases-01 × AllHold cases-17
+unfolding _⇒_⁏_ _<?_ _=?_ readOf broken judged textJudged illText fieldsOf least badPart badWhole bare outside has agrees stands repeats
     oversize toldOf telling laid kept missing piecesIn piecesOf among laterPart sampleOf conflicts six usedUp wholeTaken completed
     joining received standsAt improper stranger short ownMarks ordered receivedAmong ones markedRow markedUsed J.laters J.going
     J.ordered J.sound flatten partHead written count uncut unwritable illFormed unsized wellFormed wellWithin long partUnit
     payloadData payloadUnit pieces modified cuts cutsWithin reach reachWithin character chart within follows charted unitAt paired
     givenUp yielded givenUpAmong
 each-holds = (
-  inl (one-and-five .0),
   (
-    inl refl,
+    inl (one-and-five .0),
     (
       inl refl,
       (
         inl refl,
         (
-          inl (one-and-five .1),
+          inl refl,
           (
-            inl refl,
+            inl (one-and-five .1),
             (
               inl refl,
               (
                 inl refl,
                 (
-                  inr (case-9-holds 74 [] then-74),
+                  inl refl,
                   (
-                    inr (case-9-holds 75 (0x41 ∷ []) then-75),
-                    (inl refl, (inl refl, (inl refl, (inl refl, (inl refl, (inl refl, (inl refl, (inl refl, (inl refl, tt))))))))),
+                    inr (case-9-holds 74 [] then-74),
+                    (
+                      inr (case-9-holds 75 (0x41 ∷ []) then-75),
+                      (inl refl, (inl refl, (inl refl, (inl refl, (inl refl, (inl refl, tt)))))),
+                    ),
                   ),
                 ),
               ),
@@ -263,7 +285,8 @@ each-holds = (
       ),
     ),
   ),
+  (inl refl, (inl refl, (inl refl, (inl refl, (inl refl, tt))))),
 )
 
-pub worked : All cases
-worked = all-so cases each-holds
+pub worked : All cases-01 × All cases-17
+worked = (all-so cases-01 (each-holds .0), all-so cases-17 (each-holds .1))

@@ -5,7 +5,7 @@ use Prim.Native.Nat.{ℕ, _+_, _-_, _*_, _≤_, _<_}
 use native.Mathlib.Omega.{arith}
 use mathlib.Core.Path.{_≡_, refl, sym, ap, ap₂, subst, _∙_}
 use mathlib.Core.Bool.{Bool, true, false, true≢false}
-use mathlib.Core.Logic.{_⊎_, inl, ⊎-elim}
+use mathlib.Core.Logic.{inl, ⊎-elim}
 use mathlib.Core.List.{List, [], _∷_}
 use lib.ListN.{length, replicate, length-replicate}
 use Rattle.laws.specs.Rows.{_⇒_⁏_, _<?_, _=?_, each, no, ge}
@@ -13,7 +13,7 @@ use Rattle.laws.specs.Table.{bit}
 use Rattle.paper.specs.Limits.{sampleMost, inBand, window, recordSize, finishedMost, storeSize}
 use Rattle.paper.specs.declared.Outcome.the-variants as O
 use Rattle.text.specs.Unicode.{wellFormed, wellWithin}
-use Rattle.unit.specs.Layout.{description, reading, readOf, broken, judged, fieldsOf, least, badDescription, spelled, misspelled}
+use Rattle.unit.specs.Layout.{description, reading, readOf, broken, judged, fieldsOf, least, badDescription, textJudged, illText}
 use Rattle.sample.specs.declared.Place.{Place}
 use Rattle.sample.specs.Place.{closed}
 use Rattle.style.specs.declared.Noted.{Noted}
@@ -81,7 +81,7 @@ module _ (desk SIDX byte : ℕ) (e : readOf (unit5 SIDX byte) ≡ reading 5 (des
       ap (λ (a : After). answered (a .answer) (a .own .out) ∷ alone (seenAfter v 0 (a .own)) cs) (noting (lone v) v)
 
 reads-ten : readOf (unit5 10 0x41) ≡ reading 5 (description 10 1)
-unfolding readOf broken judged spelled misspelled wellFormed wellWithin fieldsOf least badDescription _⇒_⁏_ _<?_ _=?_
+unfolding readOf broken judged textJudged illText wellFormed wellWithin fieldsOf least badDescription _⇒_⁏_ _<?_ _=?_
 reads-ten = refl
 
 -- the store and newest when 10 has come to a desk with no newest value, and when b has come then
@@ -185,7 +185,7 @@ describing b ten c n desk h s e xs q =
 
 -- 74 is 64 ahead of 10: it becomes newest, and 10 is forgotten
 pub then-74 : Case9 74 []
-unfolding readOf broken judged spelled misspelled wellFormed wellWithin fieldsOf least badDescription inWindow moved _⇒_⁏_ _<?_ _=?_
+unfolding readOf broken judged textJudged illText wellFormed wellWithin fieldsOf least badDescription inWindow moved _⇒_⁏_ _<?_ _=?_
 then-74 = record {
   low = omega arith;
   other = λ q. omega arith;
@@ -195,7 +195,7 @@ then-74 = record {
 
 -- 75 is 65 ahead: newest ten-stays, and 75 is the oldest of its window, 63 before it
 pub then-75 : Case9 75 (0x41 ∷ [])
-unfolding readOf broken judged spelled misspelled wellFormed wellWithin fieldsOf least badDescription inWindow moved _⇒_⁏_ _<?_ _=?_
+unfolding readOf broken judged textJudged illText wellFormed wellWithin fieldsOf least badDescription inWindow moved _⇒_⁏_ _<?_ _=?_
 then-75 = record {
   low = omega arith;
   other = λ q. omega arith;

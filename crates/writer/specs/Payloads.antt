@@ -42,7 +42,7 @@ module _ (c : Caption) (M room : ℕ) (v : Writable c M room) where
       let n = length-append (c .string) (c .modifiers) in
       record {
         proper = record {
-          fit =
+          fields =
               whole-unit {TLEN = length (c .string)} {d = sample c} (v .coded) (v .index) (v .lasting) (omega arith)
               (omega (arith, v .small));
           text = rw (take-at (c .string) (c .modifiers) (length (c .string)) refl) (well-formed (c .U) (c .string) (v .well));
@@ -61,7 +61,7 @@ module _ (c : Caption) (M room : ℕ) (v : Writable c M room) where
         rw (Returns.string-unit c n k d)
         (record {
           proper = record {
-            fit =
+            fields =
                 string-unit {SLEN = length (sample c)} {d = d} (v .coded) some within few (v .lasting) (v .index)
                 (omega (arith, v .small)) (p .some) (omega (arith, p .fits, v .most));
             text = rw (string-text w d refl) (p .well);
@@ -79,7 +79,7 @@ module _ (c : Caption) (M room : ℕ) (v : Writable c M room) where
         rw (Returns.block-unit c n k (blockType j) d (blockType-not j))
         (record {
           proper = record {
-            fit = modifiers-unit {d = d} (blockType-is j) some within few (v .lasting) (p .0) (omega (arith, p .1, v .most));
+            fields = modifiers-unit {d = d} (blockType-is j) some within few (v .lasting) (p .0) (omega (arith, p .1, v .most));
             text = rw (modifiers-text w d (blockType-not j)) (empty-well 0 [] refl);
           };
           size = z;
@@ -138,4 +138,4 @@ module _ (c : Caption) (M room : ℕ) (v : Writable c M room) where
       payload-read more = unit-again (payloadUnit c M k) (payloadData c M k) more (sent .proper)
 
       pub payload-data : (more : List ℕ) → dataOf (payload c M k ++ more) (payloadUnit c M k) ≡ payloadData c M k
-      payload-data more = data-again (payloadUnit c M k) (payloadData c M k) more (sent .proper .fit)
+      payload-data more = data-again (payloadUnit c M k) (payloadData c M k) more (sent .proper .fields)

@@ -32,12 +32,23 @@ const HELD: u32 = 4_000_000_000;
 /// Rounds of the hostile mix are this many units.
 const MIX: usize = 512;
 
-/// What the strings repeat: letters of one byte and of two.
+/// What the strings repeat: letters of one byte, of two, and of one with an apostrophe of three now
+/// and then, about one in 60 bytes.
 const ASCII: &str = "a";
 const GREEK: &str = "αβγδεζηθικ";
+pub const QUOTES: &str = "\
+    The lights go down and the hall is dark; it’s the hour when nobody speaks. We don’t know how \
+    the play ends, but the prompter does, and she’s not telling before the last act. ";
+
+/// So many bytes of the text again and again; a character has to end there.
+fn string(text: &str, len: usize) -> String {
+    let mut string = text.repeat(len.div_ceil(text.len()));
+    string.truncate(len);
+    string
+}
 
 fn payloads(text: &str, len: usize, limit: usize) -> Vec<Vec<u8>> {
-    let string = text.repeat(len / text.len());
+    let string = string(text, len);
     let caption = Caption {
         u: 0,
         sidx: 128,
@@ -75,7 +86,7 @@ fn load(name: String, desks: usize, full: bool, round: Vec<Call>, span: u32) -> 
     let before = if full { filling(desks) } else { Vec::new() };
     let table = if full { "full" } else { "empty" };
     Load {
-        name: format!("{name:<22} {desks} {table:<5}"),
+        name: format!("{name:<23} {desks} {table:<5}"),
         desks,
         before,
         round,
@@ -85,10 +96,10 @@ fn load(name: String, desks: usize, full: bool, round: Vec<Call>, span: u32) -> 
 
 /// What the name of a load says of its text.
 fn mark(text: &str) -> &'static str {
-    if text == GREEK {
-        " Greek"
-    } else {
-        ""
+    match text {
+        GREEK => " Greek",
+        QUOTES => " quotes",
+        _ => "",
     }
 }
 
@@ -108,6 +119,7 @@ fn whole(text: &str, len: usize, desks: usize, full: bool) -> Load {
 fn parts(text: &str, count: usize, backwards: bool, desks: usize, full: bool) -> Load {
     let len = 900;
     let mut units = payloads(text, len, len / count + 10);
+    assert_eq!(units.len(), count, "the writer cuts as the name says");
     let mut way = "forwards";
     if backwards {
         units.reverse();
@@ -191,7 +203,33 @@ pub fn loads() -> Vec<Load> {
         }
         all.push(hostile(desks, full));
     }
-    all.push(whole(GREEK, 200, 1, false));
-    all.push(parts(GREEK, 2, false, 1, false));
+    for text in [GREEK, QUOTES] {
+        all.push(whole(text, 200, 1, false));
+        all.push(parts(text, 2, false, 1, false));
+    }
     all
+}
+
+#[cfg(test)]
+mod tests {
+    use super::*;
+
+    #[test]
+    fn units_are_as_the_names_say() {
+        for load in loads() {
+            let words: Vec<_> = load.name.split_whitespace().collect();
+            let number = |word: &str| word.parse::<usize>().expect("a number");
+            match words[..] {
+                ["whole", len, ..] => {
+                    let unit = load.bytes() / load.round.len();
+                    assert_eq!(unit, number(len) + 9, "{}", load.name);
+                }
+                [count, "parts", ..] => {
+                    assert_eq!(load.round.len(), number(count), "{}", load.name);
+                    assert_eq!(load.bytes(), 900 + 10 * number(count), "{}", load.name);
+                }
+                _ => assert_eq!(load.round.len(), MIX, "{}", load.name),
+            }
+        }
+    }
 }

@@ -1,6 +1,7 @@
-//! How fast the proved relay is, beside the second one, the rival, a plain copy of the same bytes
-//! and, if one is named, an old version of itself: all in one run. The same for strings, beside
-//! Rust's own decoders. And how much stack it takes.
+//! How fast the proved relay is, beside the second one, the rival, a plain copy of the same bytes,
+//! Rust's own decoder on the unit's string (`decoder`) and, if one is named, an old version of
+//! itself, with what the proved relay takes more than that in times of the decoder (`added`): all in
+//! one run. The same for strings, beside Rust's own decoders. And how much stack it takes.
 
 mod compiled;
 mod enter;
@@ -11,7 +12,7 @@ mod stack;
 mod strings;
 
 use compiled::Compiled;
-use hears::{Copied, Decoded, Hears};
+use hears::{Copied, CutOut, Decoded, Hears};
 use library::Library;
 use load::{Call, Load};
 use rival::Rival;
@@ -27,12 +28,15 @@ bench [--old LIBRARY] [--runs RUNS]
 
 Plays the same units through the proved relay, the second one, the rival and a
 plain copy, by turns, and prints the nanoseconds a unit of each one's quickest
-run, and how many times as long as the others the proved relay takes. Then the
-same for strings, beside Rust's own decoders, and the bytes of stack that the
-relay's calls take.
+run, and how many times as long as the others the proved relay takes. The column
+decoder is what Rust's own decoder takes for the unit's string, without cutting
+it out of the unit. Then the same for strings, beside Rust's own decoders, and
+the bytes of stack that the relay's calls take.
 
   --old LIBRARY  an earlier libexport.a (turned into a shared object by cc) or a
-                 shared object made of one: a column of its own in the same run.
+                 shared object made of one: a column of its own in the same run,
+                 and the column added, which is what the proved relay takes more
+                 than the old one, in times of decoder.
                  SPINDLEFIG_OLD=LIBRARY in the environment does the same
   --runs RUNS    short runs of each (201)";
 
@@ -93,8 +97,9 @@ fn timed<H: Hears>(load: &Load, mut hearer: H) -> (f64, usize) {
 /// Those that are measured, in the order of the columns.
 const NAMES: [&str; 6] = ["proved", "second", "rival", "memcpy", "decoder", "old"];
 
-/// One run of everyone, in nanoseconds a unit; for those that are not there, nothing.
-fn turn(load: &Load, proved: &Library, old: Option<&Library>) -> [Option<f64>; 6] {
+/// One run of everyone, in nanoseconds a unit, and behind the decoder what cutting its string out
+/// takes; for those that are not there, nothing.
+fn turn(load: &Load, proved: &Library, old: Option<&Library>) -> [Option<f64>; 7] {
     let desks = load.desks;
     let (proved, answers) = timed(load, Compiled::fresh(proved, desks));
     let same = |name: &str, (time, sum): (f64, usize)| {
@@ -109,19 +114,24 @@ fn turn(load: &Load, proved: &Library, old: Option<&Library>) -> [Option<f64>; 6
         same("rival", timed(load, rival)),
         Some(timed(load, Copied).0),
         Some(timed(load, Decoded).0),
+        Some(timed(load, CutOut).0),
         old.map(|old| timed(load, Compiled::fresh(old, desks)).0),
     ]
 }
 
-/// The quickest run of each.
+/// The quickest run of each, the decoder's without cutting its string out.
 fn quickest(load: &Load, proved: &Library, old: Option<&Library>, runs: usize) -> [Option<f64>; 6] {
-    (0..runs)
+    let [proved, second, rival, copied, decoded, cut_out, old] = (0..runs)
         .map(|_| turn(load, proved, old))
         .reduce(|best, times| {
             let pair = |i: usize| Some(f64::min(best[i]?, times[i]?));
-            [0, 1, 2, 3, 4, 5].map(pair)
+            [0, 1, 2, 3, 4, 5, 6].map(pair)
         })
-        .expect("there is a run")
+        .expect("there is a run");
+    let decoder = decoded
+        .zip(cut_out)
+        .map(|(decoded, cut_out)| decoded - cut_out);
+    [proved, second, rival, copied, decoder, old]
 }
 
 /// Whether an old version, which may have other rules, answers the load otherwise.
@@ -149,10 +159,11 @@ fn measure(load: &Load, proved: &Library, old: Option<&Library>, runs: usize) {
 
 fn print_times(proved: &Library, old: Option<&Library>, runs: usize) {
     println!("Nanoseconds a unit, the quickest of {runs} runs of about {UNITS} units, all by turns; tables are made anew and");
-    println!("{WARMING} units played before each. The ratios are the proved relay's time to the others'; added is what it takes more than");
-    println!("the old one, in times of Rust's decoder on the unit's string. *: the old one, of other rules, answers some units otherwise.");
+    println!("{WARMING} units played before each. The ratios are the proved relay's time to the others'. decoder is Rust's own on the");
+    println!("unit's string, without cutting it out of the unit; added is what the proved relay takes more than the old one, in times");
+    println!("of decoder. *: the old one, of other rules, answers some units otherwise.");
     println!();
-    print!("{:<22} n {:<5} {:>6}", "units", "table", "bytes");
+    print!("{:<23} n {:<5} {:>6}", "units", "table", "bytes");
     let there = if old.is_some() { 6 } else { 5 };
     for name in &NAMES[..there] {
         print!(" {name:>7}");
@@ -169,10 +180,10 @@ fn print_times(proved: &Library, old: Option<&Library>, runs: usize) {
 
 fn print_stack(proved: &Library, old: Option<&Library>) {
     println!();
-    print!("{:<37} {:>7}", "bytes of stack, a call", "proved");
+    print!("{:<38} {:>7}", "bytes of stack, a call", "proved");
     println!("{}", if old.is_some() { "     old" } else { "" });
     for (case, name) in stack::CASES {
-        print!("{name:<37}");
+        print!("{name:<38}");
         for library in [Some(proved), old].into_iter().flatten() {
             match stack::taken(library, case) {
                 Some(bytes) => print!(" {bytes:>7}"),

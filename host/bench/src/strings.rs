@@ -2,6 +2,7 @@
 //! character by character.
 
 use crate::library::{Library, WellFormed};
+use crate::load::QUOTES;
 use second::is_well_formed;
 use std::hint::black_box;
 use std::time::Instant;
@@ -13,11 +14,12 @@ const BYTES: usize = 1024;
 const CHECKS: usize = 64;
 
 /// What is repeated.
-const TEXTS: [(&str, &str); 4] = [
+const TEXTS: [(&str, &str); 5] = [
     ("ASCII", "To be, or not to be, "),
     ("Greek", "αβγδεζηθικ"),
     ("emoji", "😀🎭🎬🎪"),
     ("mixed", "Où est né l’abbé? — 😀 "),
+    ("quotes", QUOTES),
 ];
 
 struct Text {

@@ -3,7 +3,7 @@
 use crate::call::{Call, Run};
 use crate::opinion::{Opinion, Tools, Written};
 use crate::tally::Tally;
-use second::{Answer, Lent, Outcome, Step};
+use second::{is_well_formed, Answer, Lent, Outcome, Step};
 use std::fmt::{Arguments, Debug};
 
 /// Each output lies in a buffer of this length, and the bytes beyond it are compared too.
@@ -67,6 +67,21 @@ impl Outputs {
         let [relay, second, rival] = &self.buffers;
         same_bytes("second", relay, second)?;
         same_bytes("rival", relay, rival)
+    }
+
+    /// The string of a sample that is handed out is well-formed in the U that is told.
+    fn well_formed(&self, outcome: &Outcome) -> Result<(), String> {
+        let (Outcome::Whole(facts) | Outcome::Joined(facts)) = outcome else {
+            return Ok(());
+        };
+        let string = self.buffers[0].get(..facts.string);
+        let good = string.is_some_and(|string| is_well_formed(facts.u.into(), string));
+        same(
+            format_args!("well-formed string of {facts:?}"),
+            &good,
+            "the rule",
+            &true,
+        )
     }
 
     /// The same for what only two were asked.
@@ -205,6 +220,7 @@ impl<'a, A: Opinion + Tools, B: Opinion + Tools, C: Opinion> Player<'a, A, B, C>
                 self.rival.receive(desk, time, rest, rival),
             )?;
             self.outputs.same()?;
+            self.outputs.well_formed(&answer.outcome)?;
             self.tally.received(&answer.outcome);
             at += answer.used;
             time = answer.next;

@@ -27,7 +27,13 @@ const ADDS_TIME: u8 = 15;
 const LATE_FIRST: u8 = 16;
 const CONFLICT_FIRST: u8 = 17;
 const SIZE_FIRST: u8 = 18;
-const NONE: u8 = 19;
+const MODIFIERS_READ: u8 = 19;
+const BOXES_READ: u8 = 20;
+const STYLES_READ: u8 = 21;
+const BEFORE_FIELDS: u8 = 22;
+const JOINED_ONLY: u8 = 23;
+const SHORT_STRING: u8 = 24;
+const NONE: u8 = 25;
 
 /// The second relay with one mistake.
 struct Wrong<const MISTAKE: u8> {
@@ -82,6 +88,8 @@ impl<const MISTAKE: u8> Wrong<MISTAKE> {
             LATE_FIRST => would_be.outcome == Outcome::Refused(6),
             CONFLICT_FIRST => would_be.outcome == Outcome::Refused(7),
             SIZE_FIRST => would_be.outcome == Outcome::Refused(5),
+            // Until a difference is found no ill-formed part is kept, so one that would join is 17.
+            JOINED_ONLY => matches!(would_be.outcome, Outcome::Kept(_)),
             _ => false,
         };
         if MISTAKE == ADDS_TIME {
@@ -91,15 +99,47 @@ impl<const MISTAKE: u8> Wrong<MISTAKE> {
                 ..would_be
             });
         }
-        lets_through.then(|| heard(&mut self.second, out))
+        let mut answer = lets_through.then(|| heard(&mut self.second, out))?;
+        if let Outcome::Whole(facts) = &mut answer.outcome {
+            facts.u = unit[0] >> 7;
+            out[..facts.sample].copy_from_slice(&unit[9..]);
+        }
+        Some(answer)
+    }
+
+    /// 17 for what is not to be looked at, where this mistake looks at it.
+    fn overread(&self, name: (usize, u32), rest: &[u8], out: &[u8]) -> Option<Answer> {
+        let mut relay = self.second.clone();
+        let right = relay.receive(name.0, name.1, rest, &mut out.to_vec());
+        let unit = &rest[..right.used];
+        let kind = unit.first()? & 7;
+        let looked_at = match (MISTAKE, right.outcome) {
+            (BEFORE_FIELDS, Outcome::Refused(4)) => string(unit),
+            (_, Outcome::Refused(3 | 4)) => &[],
+            (MODIFIERS_READ, _) if kind == 1 => &unit[9..],
+            (BOXES_READ, _) if matches!(kind, 3 | 4) => &unit[7..],
+            (STYLES_READ, _) if kind == 5 => &unit[4..],
+            _ => &[],
+        };
+        let u = usize::from(unit[0] >> 7);
+        let ill_formed = !second::is_well_formed(u, looked_at);
+        ill_formed.then_some(Answer {
+            used: unit.len(),
+            next: name.1,
+            outcome: Outcome::Refused(17),
+        })
     }
 }
 
-/// The string of a TYPE 1 or 2 unit.
+/// The string of a TYPE 1 or 2 unit, as far as it is there; nothing of any other.
 fn string(unit: &[u8]) -> &[u8] {
-    match unit[0] & 7 {
-        1 => &unit[9..][..usize::from(u16::from_be_bytes([unit[7], unit[8]]))],
-        _ => &unit[10..],
+    match unit {
+        [first, _, _, _, _, _, _, high, low, data @ ..] if first & 7 == 1 => {
+            let tlen = usize::from(u16::from_be_bytes([*high, *low]));
+            &data[..tlen.min(data.len())]
+        }
+        [first, ..] if first & 7 == 2 => unit.get(10..).unwrap_or_default(),
+        _ => &[],
     }
 }
 
@@ -125,6 +165,11 @@ impl<const MISTAKE: u8> Opinion for Wrong<MISTAKE> {
 
     fn receive(&mut self, desk: usize, time: u32, rest: &[u8], out: &mut [u8]) -> Answer {
         let desk = if self.lent_other { usize::MAX } else { desk };
+        if let MODIFIERS_READ | BOXES_READ | STYLES_READ | BEFORE_FIELDS = MISTAKE {
+            if let Some(answer) = self.overread((desk, time), rest, out) {
+                return answer;
+            }
+        }
         let mut answer = match MISTAKE {
             OTHER_ENCODING => self.receive_otherwise((desk, time), rest, out),
             _ => self.second.receive(desk, time, rest, out),
@@ -138,6 +183,9 @@ impl<const MISTAKE: u8> Opinion for Wrong<MISTAKE> {
         }
         if MISTAKE == ARRIVAL_ORDER {
             self.lay_as_arrived((desk, time), rest, out, &answer);
+        }
+        if let (SHORT_STRING, Outcome::Joined(facts)) = (MISTAKE, &mut answer.outcome) {
+            facts.string -= 1;
         }
         answer
     }
@@ -204,6 +252,14 @@ fn found<const MISTAKE: u8>() -> Found {
     let mut tally = Tally::default();
     let compared = compare::<Wrong<MISTAKE>, Second, Second>(7, 100_000, &mut tally);
     compared.expect_err("the mistake is found")
+}
+
+/// What is said of a mistake that all three make.
+fn everyones<const MISTAKE: u8>() -> String {
+    let mut tally = Tally::default();
+    let compared =
+        compare::<Wrong<MISTAKE>, Wrong<MISTAKE>, Wrong<MISTAKE>>(7, 100_000, &mut tally);
+    compared.expect_err("the mistake is found").difference.what
 }
 
 /// What is said of a mistake in the third place.
@@ -282,6 +338,11 @@ fn mistakes_about_strings_are_found_by_a_17_and_logged() {
     assert_found::<LATE_FIRST>("receive");
     assert_found::<CONFLICT_FIRST>("receive");
     assert_found::<SIZE_FIRST>("receive");
+    assert_found::<MODIFIERS_READ>("receive");
+    assert_found::<BOXES_READ>("receive");
+    assert_found::<STYLES_READ>("receive");
+    assert_found::<BEFORE_FIELDS>("receive");
+    assert_found::<JOINED_ONLY>("receive");
     let mistakes = [
         rivals::<WHOLE_UNREAD>(),
         rivals::<PARTS_UNREAD>(),
@@ -291,10 +352,27 @@ fn mistakes_about_strings_are_found_by_a_17_and_logged() {
         rivals::<LATE_FIRST>(),
         rivals::<CONFLICT_FIRST>(),
         rivals::<SIZE_FIRST>(),
+        rivals::<MODIFIERS_READ>(),
+        rivals::<BOXES_READ>(),
+        rivals::<STYLES_READ>(),
+        rivals::<BEFORE_FIELDS>(),
+        rivals::<JOINED_ONLY>(),
     ];
     for what in mistakes {
         assert!(what.contains(", rival says "), "{what}");
         assert!(what.contains("Refused(17)"), "{what}");
+    }
+}
+
+#[test]
+fn an_ill_formed_string_is_found_where_all_hand_it_out() {
+    let mistakes = [
+        everyones::<WHOLE_UNREAD>(),
+        everyones::<OTHER_ENCODING>(),
+        everyones::<SHORT_STRING>(),
+    ];
+    for what in mistakes {
+        assert!(what.starts_with("well-formed string of "), "{what}");
     }
 }
 

@@ -1,5 +1,5 @@
-//! A caption relay made for speed alone: the rules of document 01 with no proof, to see what the
-//! proof costs.
+//! A caption relay made for speed alone: the rules of document 01 with request 1 of document 02, and
+//! no proof, to see what the proof costs.
 //!
 //! Places, times and descriptions stand in flat tables, what can be counted is kept as a count, a
 //! part that completes its sample goes straight to the output, and no call allocates. An answer is

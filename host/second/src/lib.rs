@@ -1,4 +1,5 @@
-//! A second caption relay in plain Rust, written from the rules alone.
+//! A second caption relay in plain Rust, written from the rules alone: document
+//! 01 with request 1 of document 02.
 //!
 //! It keeps what it holds in maps and vectors and borrows no memory from its
 //! caller. Refusals are the numbers of the rules, 1 to 17.

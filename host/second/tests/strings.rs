@@ -148,10 +148,25 @@ fn repeats_and_conflicts_with_an_ill_formed_string_are_17() {
     assert_eq!(receive(&mut relay, 6, &part).outcome, Outcome::Kept(1));
     assert_eq!(receive(&mut relay, 6, &part).outcome, Outcome::Repeat);
     assert_ill_formed(&mut relay, 6, &string_part(1, 2, 6, b"\x00a\x00"));
-    assert_ill_formed(&mut relay, 6, &whole(0, 1, b"\xFF"));
-    receive(&mut relay, 7, &unit(0, 3, &[&[0x22, 0, 0, 9], b"\xFF"]));
-    assert_ill_formed(&mut relay, 7, &string_part(0, 2, 6, b"\xFF"));
-    assert_ill_formed(&mut relay, 7, &string_part(0, 2, 6, b"\xFF"));
+    let part = unit(0, 3, &[&[0x22, 0, 0, 9], b"\xFF"]);
+    assert_eq!(receive(&mut relay, 7, &part).outcome, Outcome::Kept(1));
+    let good_and_bad = [
+        (
+            6,
+            [b"\x00b", b"\xD8\x3D"].map(|data| string_part(1, 2, 6, data)),
+        ),
+        (6, [b"a", b"\xFF"].map(|data| whole(0, 1, data))),
+        (7, [b"a", b"\xFF"].map(|data| string_part(0, 2, 6, data))),
+        (7, [b"a", b"\xFF"].map(|data| whole(0, 1, data))),
+    ];
+    for (time, [good, bad]) in good_and_bad {
+        let answer = receive(&mut relay, time, &good);
+        assert_eq!(
+            (answer.next, answer.outcome),
+            (time + 9, Outcome::Refused(7))
+        );
+        assert_ill_formed(&mut relay, time, &bad);
+    }
 }
 
 #[test]

@@ -25,7 +25,7 @@ read-spec =
     no _ _ (ne _ _ (e .before .before .if1 .left))
     (no _ _ (branched _ _ _ (e .before .is-broken .ensures) (e .if2 .left))
     (rw (
-      c .spell .ensures,
+      c .judge-text .ensures,
       c .before .judge .ensures,
       c .before .before .read-fields .ensures,
       c .before .before .before .number16 .ensures .0,

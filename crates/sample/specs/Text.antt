@@ -24,24 +24,24 @@ use Rattle.sample.specs.Told.{Word, keep-string, keep-modifiers}
 use Rattle.sample.specs.Sound.{sound-of, told-of}
 
 -- each TYPE 2 part that is kept is well-formed in the place's U
-abbrev pub Spelled : Place → Type 0
-Spelled p = (THIS : ℕ) (q : Piece) → keptAt p THIS ≡ some q → q .kind ≡ 2 → WellFormed (p .u) (q .bytes)
+abbrev pub WellKept : Place → Type 0
+WellKept p = (THIS : ℕ) (q : Piece) → keptAt p THIS ≡ some q → q .kind ≡ 2 → WellFormed (p .u) (q .bytes)
 
 -- a place as parts made it that the reader let through
 pub record Sane (p : Place) : Type 0 where
   pub made : Made p
-  pub spelled : Spelled p
+  pub text : WellKept p
 
 nothing-kept : {A : Type 0} {q : Piece} → none ≡ some q → A
 nothing-kept e = let z : _≡_ {A = ℕ} 0 1 = cc in absurd (omega arith)
 
 -- ---- a free place and a new one keep nothing
 pub closed-sane : Sane closed
-closed-sane = record { made = closed-made; spelled = λ THIS q e. nothing-kept (sym (closed-none THIS) ∙ e) }
+closed-sane = record { made = closed-made; text = λ THIS q e. nothing-kept (sym (closed-none THIS) ∙ e) }
 
 pub opened-sane : (desk time : ℕ) (x : Part) → x .total ≤ partsMost → Sane (opened desk time x)
 opened-sane desk time x h =
-    record { made = opened-made desk time x h; spelled = λ THIS q e. nothing-kept (sym (opened-none desk time x THIS) ∙ e) }
+    record { made = opened-made desk time x h; text = λ THIS q e. nothing-kept (sym (opened-none desk time x THIS) ∙ e) }
 
 -- ---- one part more, which agrees and, of TYPE 2, is well-formed
 module _ (p : Place) (m : Sane p) (x : Part) (d : List ℕ) (f : Fresh p x d) (a : agrees p x ≡ true)
@@ -60,8 +60,8 @@ module _ (p : Place) (m : Sane p) (x : Part) (d : List ℕ) (f : Fresh p x d) (a
       go true e = let k = eq-of _ _ e in told-u k ∙ sym (agrees-of p x a .strings k t .u)
       go false e = ap (λ (z : Word). z .u) (keep-modifiers p x d (f .from) to (ne-of _ _ e))
 
-  keep-spelled : Spelled (kept p x d)
-  keep-spelled THIS q e k = go (ℕ-discrete THIS (x .this))
+  keep-well : WellKept (kept p x d)
+  keep-well THIS q e k = go (ℕ-discrete THIS (x .this))
     where
       go : Dec (THIS ≡ x .this) → WellFormed (kept p x d .u) (q .bytes)
       go (yes h) =
@@ -71,10 +71,10 @@ module _ (p : Place) (m : Sane p) (x : Part) (d : List ℕ) (f : Fresh p x d) (a
           rw (told-u t, ← y) (w t)
       go (no h) =
           let o = sym (keep-others p (m .made) x d f THIS h) ∙ e in
-          rw (same-u (told-of p (m .made) THIS q o k)) (m .spelled THIS q o k)
+          rw (same-u (told-of p (m .made) THIS q o k)) (m .text THIS q o k)
 
   pub keep-sane : Sane (kept p x d)
-  keep-sane = record { made = keep-made p (m .made) x d f; spelled = keep-spelled }
+  keep-sane = record { made = keep-made p (m .made) x d f; text = keep-well }
 
 -- ---- the string that is joined
 module _ (p : Place) (m : Sane p) where
@@ -85,7 +85,7 @@ module _ (p : Place) (m : Sane p) where
     where
       first : (o : Option Piece) → keptAt p THIS ≡ o → orBlank o .kind ≡ 2 → WellFormed (p .u) (orBlank o .bytes)
       first none e k = absurd (omega arith)
-      first (some q) e k = m .spelled THIS q e k
+      first (some q) e k = m .text THIS q e k
 
   parts-well : WellParts (p .u) (piecesOf p)
   parts-well = rw (arrival p (m .made)) (in-order-well (p .total) 1)
