@@ -2,9 +2,12 @@
 ghost use mathlib.Core.Path.{_≡_};
 ghost use Rattle.text.specs.Unicode.{wellFormed, boundary};
 ghost use Rattle.text.specs.Runs.{ascii, walkedTo, blockEnd};
+ghost use Rattle.strings.specs.Steps.{smallEnd};
 
-// How many bytes are looked at together, whether they are all ASCII.
+// How many bytes are looked at together, whether they are all ASCII; and how many where those are not.
 const BLOCK: usize = 128;
+
+const SMALL: usize = 16;
 
 // Whether all of s is well-formed. UTF-8 is apart, so that the compiler puts its finder into the loop.
 pub fn well_formed(u: usize, s: &[u8]) -> bool
@@ -44,7 +47,39 @@ fn passed(s: &[u8], at: usize) -> usize
     if ascii(block) {
         return to;
     }
-    walked(0, s, at, to)
+    by_small(s, at, to)
+}
+
+// What `walked` gives of UTF-8, small block by small block.
+fn by_small(s: &[u8], at: usize, to: usize) -> usize
+    ensures { λ e. ⌜ e ≡ walkedTo 0 (now (s .entry)) at to ⌝ }
+{
+    let mut i = at;
+    while i < to {
+        let e = small(s, i, to);
+        if e == i {
+            return at;
+        }
+        i = e;
+    }
+    i
+}
+
+// What `walked` gives of the next small block. The SMALL bytes in front of its end are looked at, even where it is shorter: the compiler
+// makes a pass over a fixed number of bytes several bytes wide.
+fn small(s: &[u8], at: usize, to: usize) -> usize
+    ensures { λ e. ⌜ e ≡ walkedTo 0 (now (s .entry)) at (smallEnd at to) ⌝ }
+{
+    let end = at + octets::least(SMALL, octets::less(to, at));
+    if SMALL <= end {
+        if end <= s.len() {
+            let from = end - SMALL;
+            if ascii(&s[from..end]) {
+                return end;
+            }
+        }
+    }
+    walked(0, s, at, end)
 }
 
 // Whether all bytes are 00 to 7F. The pass is not left early, so that the compiler makes it several bytes wide.

@@ -23,7 +23,7 @@ returns-2 : tie.Need-returns-2
 returns-2 c =
     let a = c .before .before .before .before .before .args in
     let cut = c .before .before .before .cut .ensures in
-    c .walked .ensures ∙ ap (walkedTo 0 (now (a .s)) (a .at)) (block-end (now (a .s)) _ (a .at) cut)
+    c .by-small .ensures ∙ ap (walkedTo 0 (now (a .s)) (a .at)) (block-end (now (a .s)) _ (a .at) cut)
 
 pub passed-spec : {M : Type 1} → statement M
 passed-spec =
