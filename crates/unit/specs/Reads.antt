@@ -89,7 +89,7 @@ reads-uses s =
     (λ b m. record { most = m; some = λ h. omega arith }) (λ b m l f w. record { most = m; some = λ h. omega arith })
     (λ b m l f w. record { most = m; some = λ h. omega arith })
 
--- 4 and 17 use the unit
+-- 17 uses the unit
 pub seventeen-uses : (s : List ℕ) → readOf s .unit ≡ Refused R.IllFormed → readOf s .used ≡ 1 + u16At s 1
 seventeen-uses s =
     each-read (λ (r : Reading). r .unit ≡ Refused R.IllFormed → r .used ≡ 1 + u16At s 1) s (λ z e. absurd (omega (arith, ap refusalOf e)))
