@@ -8,9 +8,10 @@
  * beyond it nothing has to be checked beforehand: what is wrong is refused by its number, 1 to 17, and a row that is too short gets
  * what fits. What each call answers and leaves is proved in crates/export, for every input.
  *
- * Set-up keeps the number of desks in the memory itself, at the front of the marks: marks[0] is n, marks[1] and marks[2] are 0. Every
- * later call reads it there. Where another number than 1 to 8 stands there, or what is lent is too short for it, the call is refused
- * by 1 and leaves the memory as it stood.
+ * The marks have a head, in which the relay keeps what it knows of itself: the number of desks, which set-up puts there, and how many
+ * samples are open, which set-up makes 0 and every call keeps as a count over the places would find it. A caller may read these numbers
+ * there (SPINDLEFIG_MARKS_..) and must not write them. Where another number of desks than 1 to 8 stands there, or what is lent is too
+ * short for it, the call is refused by 1 and leaves the memory as it stood.
  */
 #ifndef SPINDLEFIG_H
 #define SPINDLEFIG_H
@@ -31,12 +32,19 @@ typedef struct {
 /* ---- What n desks need, in elements; 0 where n is not 1 to 8. ---- */
 size_t spindlefig_places(size_t n); /* places */
 size_t spindlefig_rows(size_t n);   /* finished times */
-size_t spindlefig_marks(size_t n);  /* marks: a head of 3, and 2 a desk */
+size_t spindlefig_marks(size_t n);  /* marks: a head of 10, and 2 a desk */
 size_t spindlefig_stores(size_t n); /* bytes of descriptions */
 
 size_t spindlefig_place_size(void); /* the bytes of a place: sizeof(spindlefig_place) */
 size_t spindlefig_output(void);     /* the least output that receive takes, which holds any sample */
 size_t spindlefig_row(void);        /* the numbers that hold any answer */
+
+/* ---- What stands at the head of the marks, after set-up and after every call. ---- */
+enum {
+    SPINDLEFIG_MARKS_DESKS = 0,  /* how many desks there are */
+    SPINDLEFIG_MARKS_COMMON = 1, /* the common use: the sum, over all desks, of open samples beyond two */
+    SPINDLEFIG_MARKS_OPEN = 2    /* from here on, for each desk 0 to 7, how many samples it has open; 0 for a desk that is not there */
+};
 
 /* ---- Kinds of outcomes, and the numbers that follow used, next and kind in the row of an answer. ---- */
 enum {

@@ -1,11 +1,12 @@
-/* A caption hall in C: two desks, one caption cut and joined again, one style, some refusals. Prints what the screens show. */
+/* A caption hall in C: two desks, one caption cut and joined again, one style, some refusals, the stored counts. Prints what the screens
+ * show. */
 #include "spindlefig.h"
 
 #include <stdio.h>
 #include <stdlib.h>
 #include <string.h>
 
-enum { DESKS = 2, LIMIT = 30 };
+enum { DESKS = 2, MOST_DESKS = 8, LIMIT = 30 };
 
 typedef struct {
     spindlefig_place *places;
@@ -29,7 +30,18 @@ static void *memory(size_t count, size_t size) {
     return p;
 }
 
-/* The memory is asked for by the exported sizes, so nobody counts by hand. */
+/* The head of the marks has the number of desks, so many open samples of the first and the second, and this common use. */
+static void need_counts(const hall *h, uint32_t first, uint32_t second, uint32_t common) {
+    const uint32_t *open = h->marks + SPINDLEFIG_MARKS_OPEN;
+    size_t desk;
+    need(h->marks[SPINDLEFIG_MARKS_DESKS] == DESKS, "the head has another number of desks");
+    need(open[0] == first && open[1] == second, "the head has other open samples");
+    need(h->marks[SPINDLEFIG_MARKS_COMMON] == common, "the head has another common use");
+    for (desk = DESKS; desk < MOST_DESKS; desk++)
+        need(open[desk] == 0, "a desk that is not there has open samples");
+}
+
+/* The memory is asked for by the exported sizes, so nobody counts by hand. What stands in the marks before set-up does not matter. */
 static hall open_hall(void) {
     hall h = {0};
     need(spindlefig_place_size() == sizeof(spindlefig_place), "a place has another size");
@@ -39,17 +51,22 @@ static hall open_hall(void) {
     h.rows = memory(spindlefig_rows(DESKS), sizeof(uint32_t));
     h.marks = memory(spindlefig_marks(DESKS), sizeof(uint32_t));
     h.stores = memory(spindlefig_stores(DESKS), 1);
+    memset(h.marks, 0xff, spindlefig_marks(DESKS) * sizeof(uint32_t));
     need(spindlefig_set_up(DESKS, h.places, spindlefig_places(DESKS), h.rows, spindlefig_rows(DESKS), h.marks,
                            spindlefig_marks(DESKS), h.stores, spindlefig_stores(DESKS)) == 0,
          "set-up is refused");
+    need_counts(&h, 0, 0, 0);
     return h;
 }
 
-/* One place fewer than two desks need: set-up refuses by 1, and the hall's tables stay as they are. */
+/* One place or one mark fewer than two desks need: set-up refuses by 1, and the hall's tables stay as they are. */
 static void refuse_short(hall *h) {
     printf("set-up with a place too few: %zu\n",
            spindlefig_set_up(DESKS, h->places, spindlefig_places(DESKS) - 1, h->rows, spindlefig_rows(DESKS), h->marks,
                              spindlefig_marks(DESKS), h->stores, spindlefig_stores(DESKS)));
+    printf("set-up with a mark too few: %zu\n",
+           spindlefig_set_up(DESKS, h->places, spindlefig_places(DESKS), h->rows, spindlefig_rows(DESKS), h->marks,
+                             spindlefig_marks(DESKS) - 1, h->stores, spindlefig_stores(DESKS)));
 }
 
 static void close_hall(hall *h) {
@@ -75,13 +92,38 @@ static void receive(hall *h, size_t desk, uint32_t time, const uint8_t *rest, si
 
 /* The hall knows its number of desks by the front of the marks: another number there is refused by 1, and changes nothing else. */
 static void refuse_head(hall *h, uint32_t other, const uint8_t *rest, size_t len) {
-    uint32_t n = h->marks[0];
-    need(n == DESKS && h->marks[1] == 0 && h->marks[2] == 0, "set-up left another head");
-    h->marks[0] = other;
+    h->marks[SPINDLEFIG_MARKS_DESKS] = other;
     printf("with %u at the front of the marks: ", other);
     receive(h, 0, 2000, rest, len);
-    need(h->marks[0] == other, "the head is changed");
-    h->marks[0] = n;
+    need(h->marks[SPINDLEFIG_MARKS_DESKS] == other, "the head is changed");
+    h->marks[SPINDLEFIG_MARKS_DESKS] = DESKS;
+    need_counts(h, 0, 0, 0);
+}
+
+static void give_up(hall *h, size_t desk, uint32_t time) {
+    printf("give-up of desk %zu time %u: %zu\n", desk, time,
+           spindlefig_give_up(h->places, spindlefig_places(DESKS), h->rows, spindlefig_rows(DESKS), h->marks,
+                              spindlefig_marks(DESKS), desk, time));
+}
+
+/* A part that opens a sample counts up; one that spoils it and a give-up count down; a repeat and a refused give-up leave the counts. */
+static void count(hall *h) {
+    static const uint8_t first[11] = {2, 0, 10, 0x21, 0, 0, 1, 128, 0, 2, 'a'};
+    static const uint8_t spoiling[8] = {4, 0, 7, 0x22, 0, 0, 1, 'b'};
+    uint32_t time;
+    for (time = 0; time < 4; time++)
+        receive(h, 1, time, first, sizeof first);
+    need_counts(h, 0, 4, 2);
+    receive(h, 1, 3, first, sizeof first);
+    receive(h, 0, 3, first, sizeof first);
+    need_counts(h, 1, 4, 2);
+    receive(h, 1, 0, spoiling, sizeof spoiling);
+    need_counts(h, 1, 3, 1);
+    give_up(h, 1, 1);
+    need_counts(h, 1, 2, 0);
+    give_up(h, 1, 1);
+    give_up(h, 0, 3);
+    need_counts(h, 0, 2, 0);
 }
 
 /* Goes through a payload with so much room for the answers, until no bytes are used, as every caller does. */
@@ -161,9 +203,8 @@ int main(void) {
     refuse_head(&h, DESKS + 1, skipped, sizeof skipped);
     go_through(&h, DESKS, skipped, sizeof skipped, sizeof h.out);
     go_through(&h, 0, skipped, sizeof skipped, sizeof h.out - 1);
-    printf("give-up of a sample not open: %zu\n",
-           spindlefig_give_up(h.places, spindlefig_places(DESKS), h.rows, spindlefig_rows(DESKS), h.marks,
-                              spindlefig_marks(DESKS), 0, 1000));
+    give_up(&h, 0, 1000);
+    count(&h);
     spindlefig_check(bad, sizeof bad, h.row, 9);
     printf("a book of 5 bytes: %llu, record %llu\n", (unsigned long long)h.row[0], (unsigned long long)h.row[1]);
     printf("the first character of \xc3\xa9t\xc3\xa9 has %zu bytes\n", spindlefig_character(0, (const uint8_t *)"\xc3\xa9t\xc3\xa9", 5, 0));

@@ -6,25 +6,19 @@ use mathlib.Core.Bool.{Bool, true, false, cond}
 use mathlib.Core.List.{List, [], _∷_}
 use lib.ListN.{length, take}
 use lib.Seq.{length-take-le}
-use Rattle.laws.specs.Rows.{_⇒_⁏_, _and_, _<?_, _=?_, ge, eq-of}
+use Rattle.laws.specs.Rows.{_⇒_⁏_, _<?_, _=?_, ge, eq-of}
 use Rattle.laws.specs.Table.{bit, seek, count}
 use Rattle.laws.specs.Region.{take-min}
 use Rattle.paper.specs.declared.Name.{Name}
 use Rattle.sample.specs.declared.Place.{Place}
 use Rattle.memory.specs.Table.{isAt}
-use Rattle.table.specs.Table.{counts, holds}
+use Rattle.table.specs.Table.{bears, holds}
 use Rattle.table.specs.Turn.{count-le}
 use Rattle.table.proofs.Facts.{fails}
 
 -- a count is no more than the places that were passed
 pub counted-small : {A : Type 0} (p : A → Bool) (ys : List A) (i c : ℕ) → i ≤ length ys → c ≡ count p (take i ys) → c ≤ i
 counted-small p ys i c l e = rw e (omega (arith, count-le p (take i ys), length-take-le i ys l))
-
--- ---- what is asked of a place, from its fields
-pub counts-of : (timed : Bool) (who : Name) (y : Place) → (timed ⇒ y .time =? who .time ⁏ y .used and y .desk =? who .desk) ≡ counts timed who y
-unfolding _⇒_⁏_
-counts-of true who y = refl
-counts-of false who y = refl
 
 -- ---- a search is spared where none counts
 -- where no element is q, and each that is p is q, none is p
@@ -41,7 +35,7 @@ module _ (ys : List Place) (m : ℕ) (who : Name) where
   sought = isAt (who .desk) (who .time)
 
   -- n places are looked at, c of them bear the time, k are searched
-  pub spared : (n c k : ℕ) → n ≡ min (length ys) m → c ≡ count (counts true who) (take n ys) → k ≡ (c =? 0 ⇒ 0 ⁏ n) → (seek sought (take k ys) <? k) ≡ holds sought (take m ys)
+  pub spared : (n c k : ℕ) → n ≡ min (length ys) m → c ≡ count (bears who) (take n ys) → k ≡ (c =? 0 ⇒ 0 ⁏ n) → (seek sought (take k ys) <? k) ≡ holds sought (take m ys)
   unfolding _⇒_⁏_ _<?_
   spared n c k en ec ek = go (c =? 0) refl ek
     where
@@ -53,6 +47,6 @@ module _ (ys : List Place) (m : ℕ) (who : Name) where
 
       go : (b : Bool) → (c =? 0) ≡ b → k ≡ (b ⇒ 0 ⁏ n) → (seek sought (take k ys) <? k) ≡ holds sought (take m ys)
       go true f e =
-          let none : seek sought (take n ys) ≡ length (take n ys) = none-so sought (counts true who) (λ y h. sym (fails (y .used) (y .desk =? who .desk) (y .time =? who .time) h)) (take n ys) (sym ec ∙ eq-of c 0 f) in
+          let none : seek sought (take n ys) ≡ length (take n ys) = none-so sought (bears who) (λ y h. sym (fails (y .used) (y .desk =? who .desk) (y .time =? who .time) h)) (take n ys) (sym ec ∙ eq-of c 0 f) in
           rw (e, sym same) (sym (ge (seek sought (take n ys)) (length (take n ys)) (omega (arith, none))))
       go false f e = rw (e, sym same, long)

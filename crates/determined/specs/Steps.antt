@@ -4,12 +4,12 @@
 use Prim.Native.Nat.{ℕ}
 use mathlib.Core.Path.{_≡_, refl}
 use mathlib.Core.Bool.{Bool}
-use mathlib.Core.List.{List, []}
+use mathlib.Core.List.{List}
 use lib.ListN.{length, getD, set, take, replicate, length-replicate}
 use lib.Seq.{sets}
 use Rattle.laws.specs.Exactly.{Determines, determined, equation, determined-by-three}
 use Rattle.laws.specs.Rows.{_<?_}
-use Rattle.laws.specs.Table.{seek, count}
+use Rattle.laws.specs.Table.{seek}
 use Rattle.paper.specs.Limits.{places, rowsNeed, storesNeed}
 use Rattle.paper.specs.declared.Answer.{Answer}
 use Rattle.paper.specs.declared.Name.{Name}
@@ -25,14 +25,13 @@ use Rattle.asks.specs.declared.Arrival.{Arrival}
 use Rattle.asks.specs.Settled.{openIn}
 use Rattle.memory.specs.declared.Started.{Started}
 use Rattle.memory.specs.Table.{vacant, isAt}
-use Rattle.memory.specs.Relay.{desksOf, improper, stranger, lacks, lacksThree, lookedUp}
-use Rattle.table.specs.declared.Seen.{Seen}
-use Rattle.table.specs.Table.{counts, holds, seen, stored, cleared, headed}
+use Rattle.memory.specs.Relay.{desksOf, storedShares, recounted, improper, stranger, lacks, lacksThree, lookedUp}
+use Rattle.table.specs.Table.{holds, stored, cleared, headed}
 use Rattle.gate.specs.declared.Gate.{Gate}
-use Rattle.looks.specs.Looks.{reachOf, reachFor, askedOf, beyondOf, sharesSeen, spotOf, freedAt}
+use Rattle.looks.specs.Looks.{reachOf, reachFor, askedOf, spotOf, freedAt}
 use Rattle.gate.specs.Gate.{gateOf}
 use Rattle.fresh.specs.Fresh.{fitting, startedOf, madeMarks}
-use Rattle.steps.specs.Plan.{Plan, plan, partPlanned, laidPlan, passPlanned, Yield, yield, yielding, placeAfter}
+use Rattle.steps.specs.Plan.{Plan, plan, partPlanned, laidPlan, countedPlan, passPlanned, Yield, yield, yielding, placeAfter}
 use Rattle.determined.specs.Leaves.{Arrays, placeOf}
 use Rattle.determined.specs.Desk.{any, Sample, sample}
 
@@ -47,16 +46,16 @@ pub finds-lowest : (t : List Place) (m : ℕ) → Determines (λ (r : ℕ). r �
 finds-lowest t m = equation (seek vacant (take m t))
 
 -- ---- counts
-pub counts-count : (t : List Place) (m : ℕ) (who : Name) (timed : Bool) → Determines (λ (r : ℕ). r ≡ count (counts timed who) (take m t))
-counts-count t m who timed = equation (count (counts timed who) (take m t))
-
 pub counts-is-open : (t : List Place) (m : ℕ) (who : Name)
     → Determines (λ (r : Bool). r ≡ holds (isAt (who .desk) (who .time)) (take m t))
 counts-is-open t m who = equation (holds (isAt (who .desk) (who .time)) (take m t))
 
--- ---- census
-pub census-scan : (t : List Place) (m : ℕ) → Determines (λ (r : Seen). r ≡ seen (take m t))
-census-scan t m = equation (seen (take m t))
+-- ---- tally
+pub tally-shares : (marks : List ℕ) (n desk : ℕ) → Determines (λ (r : Shares). r ≡ storedShares n desk marks)
+tally-shares marks n desk = equation (storedShares n desk marks)
+
+pub tally-count : (marks : List ℕ) (desk : ℕ) (was is : Bool) → Determines (λ (l : List ℕ). l ≡ recounted desk was is marks)
+tally-count marks desk was is = equation (recounted desk was is marks)
 
 -- ---- frees
 pub frees-free : (t : List Place) (m i : ℕ) → Determines (λ (l : List Place). l ≡ stored m i closed t)
@@ -119,26 +118,20 @@ looks-reach-for marks len x = equation (reachFor (desksOf marks) len (x .unit))
 pub looks-asked : (at m : ℕ) → Determines (λ (r : ℕ). r ≡ askedOf at m)
 looks-asked at m = equation (askedOf at m)
 
-pub looks-beyond : (opens m : ℕ) → Determines (λ (r : ℕ). r ≡ beyondOf opens m)
-looks-beyond opens m = equation (beyondOf opens m)
-
 pub looks-spot : (at low m len : ℕ) (x : Arrival) → Determines (λ (r : ℕ). r ≡ spotOf at low m len (x .part .total))
 looks-spot at low m len x = equation (spotOf at low m len (x .part .total))
-
-pub looks-shares : (opens : ℕ) (s : Seen) (marks : List ℕ)
-    → Determines (λ (r : Shares). r ≡ sharesSeen opens (s .opens) (desksOf marks))
-looks-shares opens s marks = equation (sharesSeen opens (s .opens) (desksOf marks))
 
 pub looks-freed-at : (g : GivenUp) (at len : ℕ) → Determines (λ (r : ℕ). r ≡ freedAt g at len)
 looks-freed-at g at len = equation (freedAt g at len)
 
 -- ---- takes, yields. Of the stores the first two know the length
-module _ (table : ℕ) (h : Shares) (rows marks : List ℕ) (store-len : ℕ) (who : Name) (x : Arrival) (rest out : List ℕ) where
+module _ (table : ℕ) (rows marks : List ℕ) (store-len : ℕ) (who : Name) (x : Arrival) (rest out : List ℕ) where
   abbrev stores : List ℕ
   stores = replicate store-len 0
 
   abbrev after : (q : Head) (l : Arrays) → (stores : List ℕ) → Plan
-  after q l stores = laidPlan (placeOf q l) (partPlanned table h (openIn (placeOf q l)) rows marks stores out who x rest)
+  after q l stores =
+      countedPlan (who .desk) (q .used) (laidPlan (placeOf q l) (partPlanned table (openIn (placeOf q l)) rows marks stores out who x rest))
 
   pub takes-step : (q : Head) (l : Arrays)
       → Determines (λ (r : Sample × List ℕ × List ℕ × List ℕ). (stores : List ℕ) → length stores ≡ store-len
@@ -151,7 +144,7 @@ module _ (table : ℕ) (h : Shares) (rows marks : List ℕ) (store-len : ℕ) (w
       (after q l stores) r s (a stores (length-replicate store-len 0)) (b stores (length-replicate store-len 0))
 
   abbrev lost : (stores : List ℕ) → Plan
-  lost stores = partPlanned table h closed rows marks stores out who x rest
+  lost stores = partPlanned table closed rows marks stores out who x rest
 
   pub takes-step-lost : Determines (λ (r : Answer × List ℕ × List ℕ × List ℕ). (stores : List ℕ) → length stores ≡ store-len
       → plan (lost stores .place) (r .0) (r .1) (r .2) stores (r .3) ≡ lost stores)

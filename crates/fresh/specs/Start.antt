@@ -18,9 +18,7 @@ use Rattle.fresh.specs.Fresh.{fitting, startedOf, madeMarks}
 -- ---- the head: zeros, and then the number of desks
 pub head-put : (n : ℕ) (l : List ℕ) → set (sets l 0 (replicate headSize 0)) 0 n ≡ sets l 0 (head n)
 head-put n [] = refl
-head-put n (x ∷ []) = refl
-head-put n (x ∷ y ∷ []) = refl
-head-put n (x ∷ y ∷ z ∷ l) = refl
+head-put n (x ∷ l) = refl
 
 -- ---- the desks' own marks, made desk by desk
 pub own-none : (n : ℕ) (l : List ℕ) → sets l headSize (ownMarks n) ≡ sets l headSize (ownMarks (n - 0))

@@ -58,6 +58,9 @@ fits-three n table rows marks desk h k = (proper n desk h, three-long n table ro
 
 -- ---- where the things of a desk that fits start and end, within the machine's numbers and within what is lent
 module _ {n table rows marks desk : ℕ} (f : FitsThree n table rows marks desk) where
+  pub desk-few : desk < desksMost
+  desk-few = omega (arith, f .0)
+
   pub row-start : finishedMost * desk < 2 ^ 64
   row-start = omega (arith, f .0)
 

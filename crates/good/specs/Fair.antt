@@ -10,7 +10,7 @@ use mathlib.Core.List.{List, [], _∷_}
 use lib.ListN.{length, replicate}
 use Rattle.laws.specs.Rows.{_⇒_⁏_, and-is, eq}
 use Rattle.laws.specs.Table.{bit, seek, count, seek-not, count-none}
-use Rattle.laws.specs.Sums.{sum, sum-more, sum-add, sum-gap, sum-ge, sum-zero}
+use Rattle.laws.specs.Sums.{sum, sum-more, sum-add, sum-gap, sum-ge, sum-zero, sum-changed}
 use Rattle.paper.specs.Limits.{ownPlaces, openMost, places, common}
 use Rattle.sample.specs.declared.Place.{Place}
 use Rattle.sample.specs.Place.{bare, closed}
@@ -62,17 +62,31 @@ room n d l f p size h =
     let t = sum-more n ownPlaces (λ (e : ℕ). count (mine e) l - ownPlaces) in
     seek-not (λ (y : Place). y .used) l (⊎-elim (λ k. omega arith) (λ k. omega (arith, f .shared)) (p .share))
 
--- ---- closed places are fair
+-- ---- of closed places none is anybody's, and they are fair
+pub none-mine : (d k : ℕ) → count (mine d) (replicate k closed) ≡ 0
+unfolding bare _⇒_⁏_
+none-mine d k = count-none (mine d) k closed refl
+
+pub none-common : (n k : ℕ) → commonUse n (replicate k closed) ≡ 0
+none-common n k = sum-zero n (λ (e : ℕ). count (mine e) (replicate k closed) - ownPlaces) (λ e. omega (arith, none-mine e k))
+
 pub fair-closed : (n k : ℕ) → Fair n (replicate k closed)
 unfolding bare _⇒_⁏_
 fair-closed n k = record {
   once = λ d t. omega (arith, count-none (isAt d t) k closed refl);
-  six = λ d. omega (arith, count-none (mine d) k closed refl);
-  whose = λ d h. count-none (mine d) k closed refl;
-  shared = omega (arith, sum-zero n (λ (e : ℕ). count (mine e) (replicate k closed) - ownPlaces) (λ e. omega (arith, count-none (mine e) k closed refl)));
+  six = λ d. omega (arith, none-mine d k);
+  whose = λ d h. none-mine d k;
+  shared = omega (arith, none-common n k);
 }
 
--- ---- fairness is kept where a desk below n leaves its sample of a time, if a new one is let through
+-- ---- a desk below n leaves its sample of a time: the common use changes by what the desk has open beyond two
+pub common-moved : (n d t : ℕ) (p : Place) (l k : List Place) → d < n → Moved d t p l k
+    → commonUse n k + (count (mine d) l - ownPlaces) ≡ commonUse n l + (count (mine d) k - ownPlaces)
+common-moved n d t p l k h m =
+    sum-changed n d (λ (e : ℕ). count (mine e) k - ownPlaces) (λ (e : ℕ). count (mine e) l - ownPlaces) h
+    (λ e q. omega (arith, m .other-mine e q))
+
+-- and fairness is kept, if a new one is let through
 module _ (n d t : ℕ) (p : Place) (l k : List Place) (f : Fair n l) (h : d < n) (m : Moved d t p l k)
     (passed : p .used ≡ true → openAt d t l .used ≡ false → Passed (sharesOf n d l)) where
   -- no more of the desk's samples are open than before; or one more, and the shares let it through
@@ -90,10 +104,6 @@ module _ (n d t : ℕ) (p : Place) (l k : List Place) (f : Fair n l) (h : d < n)
           inr (omega (arith, m .own-isAt, ap bit u, ap bit o, open-none d t l o), (omega (arith, m .own-mine, ap bit u, ap bit o), passed u o))
       go false u c o = inl (omega (arith, m .own-isAt, m .own-mine, ap bit u))
 
-  gap : commonUse n k + (count (mine d) l - ownPlaces) ≤ commonUse n l + (count (mine d) k - ownPlaces)
-  gap =
-      sum-gap n d (λ (e : ℕ). count (mine e) k - ownPlaces) (λ (e : ℕ). count (mine e) l - ownPlaces) h (λ e q. omega (arith, m .other-mine e q))
-
   pub fair-moved : Fair n k
   fair-moved = record {
     once = λ e u. once e u (ℕ-discrete e d) (ℕ-discrete u t);
@@ -101,7 +111,7 @@ module _ (n d t : ℕ) (p : Place) (l k : List Place) (f : Fair n l) (h : d < n)
     whose = λ e q. omega (arith, f .whose e q, m .other-mine e (λ c. omega arith));
     shared =
         let b = f .shared in
-        let c = gap in
+        let c = common-moved n d t p l k h m in
         ⊎-elim (λ w. omega arith) (λ w. ⊎-elim (λ q. omega arith) (λ q. omega arith) (w .1 .1 .share)) grows;
   }
     where

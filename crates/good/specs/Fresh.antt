@@ -1,12 +1,12 @@
 -- What set-up leaves to each desk: the same view, whatever the lent memory was. Assumes nothing.
-use Prim.Native.Nat.{ℕ, zero, suc, _+_, _-_, _*_, _≤_, _<_, zero-le}
+use Prim.Native.Nat.{ℕ, zero, suc, _+_, _-_, _*_, _≤_, _<_}
 use native.Mathlib.Nat.{mul-le-mul-left, zero-add}
 use native.Mathlib.Omega.{arith}
 use mathlib.Core.Path.{_≡_, refl, sym, ap, subst, _∙_}
 use mathlib.Core.Bool.{true, false}
 use mathlib.Core.List.{List, [], _∷_, _++_, append-nil}
 use lib.ListN.{length, drop, drop-of-length-le, take, replicate, length-drop, length-replicate, replicate-append-replicate}
-use lib.Seq.{sets, sets-eq, take-at, drop-at, take-append-le, drop-append-le}
+use lib.Seq.{sets, sets-eq, take-at, drop-at, take-append-le, drop-append-le, drop-append-add}
 use Rattle.laws.specs.Rows.{_or_, no, ge, or-none, ge-of}
 use Rattle.laws.specs.Region.{part}
 use Rattle.laws.specs.Table.{seek}
@@ -14,8 +14,8 @@ use Rattle.paper.specs.Limits.{headSize, finishedMost, inBand, marksEach, store
 use Rattle.sample.specs.Place.{closed}
 use Rattle.memory.specs.Table.{isAt}
 use Rattle.memory.specs.declared.Started.the-variants.{Ready}
-use Rattle.memory.specs.Relay.{Tables, tables, improper, short, lacking, Prepared, ownMarks, freshMarks, setUp}
-use Rattle.good.specs.Fair.{fair-closed}
+use Rattle.memory.specs.Relay.{Tables, tables, improper, short, lacking, Prepared, head, ownMarks, freshMarks, setUp}
+use Rattle.good.specs.Fair.{none-mine}
 use Rattle.good.specs.Good.{ready-exactly, all-closed, none-open, fresh-length}
 use Rattle.good.specs.View.{View, view, same-view}
 
@@ -62,8 +62,7 @@ own-alike (suc n) (suc d) h =
     let q : marksEach * suc d ≡ suc (suc (marksEach * d)) = omega arith in rw q (own-alike n d (omega arith))
 
 marks-alike : (n d : ℕ) → d < n → part (headSize + marksEach * d) marksEach (freshMarks n) ≡ 0 ∷ inBand ∷ []
-marks-alike n d h =
-    let q : headSize + marksEach * d ≡ suc (suc (suc (marksEach * d))) = omega arith in rw q (own-alike n d h)
+marks-alike n d h = ap (take marksEach) (drop-append-add (head n) (ownMarks n) (marksEach * d)) ∙ own-alike n d h
 
 pub set-up-view : (n d : ℕ) (s : Tables) → setUp n s .answer ≡ Ready → d < n → view n d (setUp n s .tables) ≡ freshView
 unfolding setUp short
@@ -75,7 +74,7 @@ set-up-view n d s q h =
     let f = all-closed (places n) (s .places) (ge-of _ _ (three .0)) in
     subst (λ (m : Prepared). view n d (m .tables) ≡ freshView) (no _ _ e refl)
     (same-view _ _ (λ time. rw f (none-open (places n) (seek (isAt d time) (replicate (places n) closed))))
-    (rw f (fair-closed 0 (places n) .whose d zero-le)) (cell-fresh finishedMost n d h 0 (s .rows) (ge-of _ _ (two .0)))
+    (rw f (none-mine d (places n))) (cell-fresh finishedMost n d h 0 (s .rows) (ge-of _ _ (two .0)))
     (cell-stored marksEach n d h headSize (freshMarks n) (s .marks) (fresh-length n) (ge-of _ _ (two .1)) ∙ marks-alike n d h)
     (cell-fresh storeSize n d h 0 (s .stores) (ge-of _ _ (c .1))))
 

@@ -1,9 +1,11 @@
 pub mod Cells
 pub mod Places
 pub mod Fair
+pub mod Counts
 pub mod Leaves
 pub mod Good
 pub mod View
 pub mod Lifted
 pub mod Served
 pub mod Fresh
+pub mod Walked

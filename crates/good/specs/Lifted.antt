@@ -27,7 +27,7 @@ use Rattle.desk.specs.declared.Shares.{Shares}
 use Rattle.desk.specs.declared.GivenUp.the-variants as G
 use Rattle.desk.specs.Desk.{Own, After, Given, says, finish, taken, received, givenUp}
 use Rattle.desk.specs.Effects.{Effect, stays, effects, reader-refuses, refusalNumber, seventeen-read, progress}
-use Rattle.memory.specs.Relay.{Tables, desksOf, placesOf, ownOf, sharesOf, putBack, improper, stranger, lacking, ordered}
+use Rattle.memory.specs.Relay.{Tables, desksOf, ownOf, storedShares, putBack, improper, stranger, lacking, ordered}
 use Rattle.memory.specs.Relay.{Done, done, settled}
 use Rattle.memory.specs.Relay.{receivedAmong, receivedAt, yielded, released, returned, givenUpAmong, givenUpAt, lookedUpAmong, lookedUp}
 use Rattle.memory.specs.Back.{put-same}
@@ -47,7 +47,7 @@ module _ (s : Tables) (who : Name) (rest out : List ℕ) (r : Refusal) (e : rece
   unfolding receivedAmong
   refused-stays t =
       let n = desksOf (s .marks) in
-      let x = ordered-effect _ (sharesOf n (who .desk) (placesOf n s)) its (who .desk) (who .time) rest r e .1 t in
+      let x = ordered-effect _ (storedShares n (who .desk) (s .marks)) its (who .desk) (who .time) rest r e .1 t in
       (ap (putBack n s (who .desk) (who .time)) x ∙ put-same n s (who .desk) (who .time) out, ap (λ (o : Own). o .out) x)
 
   pub refused-frees : numberOf r ≡ 10
@@ -56,7 +56,7 @@ module _ (s : Tables) (who : Name) (rest out : List ℕ) (r : Refusal) (e : rece
   unfolding receivedAmong
   refused-frees t =
       let n = desksOf (s .marks) in
-      let x = ordered-effect _ (sharesOf n (who .desk) (placesOf n s)) its (who .desk) (who .time) rest r e .0 t in
+      let x = ordered-effect _ (storedShares n (who .desk) (s .marks)) its (who .desk) (who .time) rest r e .0 t in
       (ap (putBack n s (who .desk) (who .time)) x, ap (λ (o : Own). o .out) x)
 
 -- ---- refusal 17: a call that 1 and 2 let through is answered 17 exactly if the reader refuses its unit by 17. The unit's bytes are used,
@@ -73,7 +73,7 @@ module _ (s : Tables) (who : Name) (rest out : List ℕ) where
   unfolding receivedAmong ordered
   seventeen-is l e =
       let o = ownOf n s (who .desk) (who .time) out in
-      let h = sharesOf n (who .desk) (placesOf n s) in
+      let h = storedShares n (who .desk) (s .marks) in
       ap (settled n s (who .desk) (who .time))
       (sym (no _ _ (l .0) (no _ _ (l .1) refl)) ∙ reader-refuses h o (who .desk) (who .time) rest R.IllFormed e)
       ∙ ap₂ (λ (t : Tables) (u : ℕ). done t out (says u (who .time) (O.Refused R.IllFormed)))
@@ -154,7 +154,7 @@ pub receive-progress : (s : Tables) (who : Name) (rest out : List ℕ) → Progr
 unfolding receivedAmong
 receive-progress s who rest out =
     let n = desksOf (s .marks) in
-    ordered-progress _ (sharesOf n (who .desk) (placesOf n s)) (ownOf n s (who .desk) (who .time) out) (who .desk) (who .time) rest
+    ordered-progress _ (storedShares n (who .desk) (s .marks)) (ownOf n s (who .desk) (who .time) out) (who .desk) (who .time) rest
 
 -- ---- no relay: where the head of the marks does not hold 1 to 8, every call of every desk is refusal 1 and leaves all as it stood
 module _ (s : Tables) (none : improper (desksOf (s .marks)) ≡ true) where

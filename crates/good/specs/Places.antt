@@ -4,18 +4,19 @@ use Prim.Native.Nat.{ℕ, _+_, _≤_, _<_}
 use native.Mathlib.Decide.{decLt}
 use native.Mathlib.Omega.{arith}
 use mathlib.Core.Path.{_≡_, refl, sym, ap, _∙_}
-use mathlib.Core.Bool.{Bool, true, false, not, true≢false}
+use mathlib.Core.Bool.{Bool, true, false, true≢false}
 use mathlib.Core.Logic.{_≢_}
 use mathlib.Core.Option.{Option, Option·getD}
 use mathlib.Core.List.{List}
 use lib.ListN.{length, getD, List·getD-eq-default}
 use lib.Seq.{set-out}
-use Rattle.laws.specs.Rows.{each, eq, ne, eq-of, lt-of, ge-of, and-is, and-of}
+use Rattle.laws.specs.Rows.{each, eq, ne, eq-of, lt-of, ge-of, and-is, and-of, not-is}
 use Rattle.laws.specs.Table.{bit, seek, first, count, seek-hit, seek-first, seek-none, count-zero, count-set, first-set-here, first-set-other}
 use Rattle.sample.specs.declared.Place.{Place}
 use Rattle.sample.specs.Place.{bare, closed}
 use Rattle.memory.specs.Table.{vacant, mine, isAt}
-use Rattle.memory.specs.Relay.{openAt, standsAt, placed}
+use Rattle.memory.specs.Relay.{openAt, standsAt, placed, isOpen}
+use Rattle.memory.specs.Counted.{is-open, is-none}
 
 -- ---- where a place is open, it is the desk's sample of that time; and a named one is closed otherwise
 abbrev pub Its : (d t : ℕ) → Place → Type 0
@@ -109,15 +110,11 @@ module _ (d t : ℕ) (p : Place) (l : List Place) (named : Named d t p)
       each (Stands d t p l) _ _ _
       (λ u.
       let r = room u new in
-      let f = free (getD l (seek vacant l) closed .used) (seek-hit vacant l closed r) in
+      let f = not-is (getD l (seek vacant l) closed .used) (seek-hit vacant l closed r) in
       record { ahead = omega arith; past = λ q. absurd (omega arith); its = unused (getD l (seek vacant l) closed) f; alike = f ∙ sym new })
       (λ u.
       let f = closed-free (getD l (length l) closed) (List·getD-eq-default l closed (omega arith)) in
       record { ahead = k; past = λ q. named .free u; its = unused (getD l (length l) closed) f; alike = f ∙ sym new }))
-    where
-      free : (b : Bool) → not b ≡ true → b ≡ false
-      free true h = sym h
-      free false h = refl
 
   stored : (q : Place → Bool) → count q (placed d t p l) + bit (q (getD l (standsAt d t p l) closed)) ≡ count q l + bit (q p)
   stored q =
@@ -132,6 +129,10 @@ module _ (d t : ℕ) (p : Place) (l : List Place) (named : Named d t p)
 
   inside : p .used ≡ true → standsAt d t p l < length l
   inside u = either (standsAt d t p l) (length l) (λ h. h) (λ h. unused p (closed-free p (stands .past h)) u)
+
+  -- the place that the call is about is open after it where p is
+  pub is-used : isOpen d t p l ≡ p .used
+  is-used = either (standsAt d t p l) (length l) (λ h. is-open d t l p h) (λ h. is-none d t l p h ∙ sym (closed-free p (stands .past h)))
 
   gone : p .used ≡ false → count (isAt d t) l ≤ 1 → count (isAt d t) (placed d t p l) ≡ 0
   gone f once = go (openAt d t l .used) refl (counted (isAt d t) (isAt-sees d t))

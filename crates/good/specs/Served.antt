@@ -1,5 +1,6 @@
--- Whom the shares let through is answered neither 8 nor 9, and a desk with fewer than two open samples always is, whatever the tables
--- are. That the place is there in good tables, `receive-stands` says. Assumes nothing.
+-- Whom the shares let through is answered neither 8 nor 9, and a desk with fewer than two open samples always is: by the numbers that are
+-- stored whatever the tables are, and by what a walk finds in good ones. That the place is there in good tables, `receive-stands` says.
+-- Assumes nothing.
 use Prim.Native.Nat.{ℕ, _<_}
 use native.Mathlib.Omega.{arith}
 use mathlib.Core.Path.{_≡_, refl, sym, ap, _∙_}
@@ -7,7 +8,7 @@ use mathlib.Core.Bool.{Bool, true, false, not, true≢false}
 use mathlib.Core.Logic.{inl, ⊎-elim, _≢_}
 use mathlib.Core.List.{List}
 use lib.ListN.{length}
-use Rattle.laws.specs.Rows.{_or_, _<?_, each, no, ge, ne, ge-of}
+use Rattle.laws.specs.Rows.{_or_, _<?_, each, no, ge, ne, ge-of, or-none}
 use Rattle.laws.specs.Table.{count}
 use Rattle.paper.specs.Limits.{sampleMost, ownPlaces}
 use Rattle.paper.specs.Words.{numberOf, kindOf}
@@ -27,8 +28,10 @@ use Rattle.desk.specs.declared.Shares.{Shares}
 use Rattle.desk.specs.Desk.{Own, After, wholeTaken, six, usedUp, completed, joining, descriptionTaken, taken, received}
 use Rattle.desk.specs.Effects.{asksPart, asks}
 use Rattle.memory.specs.Table.{mine}
-use Rattle.memory.specs.Relay.{Tables, desksOf, placesOf, ownOf, sharesOf, stranger, lacking, ordered, receivedAmong, receivedAt}
+use Rattle.memory.specs.Relay.{Tables, desksOf, placesOf, ownOf, opensOf, storedShares, stranger, lacking, ordered}
+use Rattle.memory.specs.Relay.{receivedAmong, receivedAt}
 use Rattle.good.specs.Fair.{Passed}
+use Rattle.good.specs.Good.{Good, below}
 
 -- neither 8 nor 9
 abbrev pub Serves : Outcome → Type 0
@@ -98,7 +101,7 @@ taken-served h s desk time used rest (Description x) k w =
 pub let-through : (s : Tables) (who : Name) (rest out : List ℕ) → let n = desksOf (s .marks) in
     ((stranger n (who .desk) or lacking n s) ≡ false → (length out <? sampleMost) ≡ false
     → asks (ownOf n s (who .desk) (who .time) out) (who .desk) (who .time) rest (readOf rest .unit) ≡ true
-    → Passed (sharesOf n (who .desk) (placesOf n s)))
+    → Passed (storedShares n (who .desk) (s .marks)))
     → Serves (receivedAt s who rest out .answer .outcome)
 unfolding receivedAmong ordered received
 let-through s who rest out k =
@@ -106,9 +109,18 @@ let-through s who rest out k =
     each Served _ _ _ (λ e. other R.Desk (omega arith))
     (λ a. each Served _ _ _ (λ e. other R.Output (omega arith))
     (λ b.
-    taken-served (sharesOf n (who .desk) (placesOf n s)) (ownOf n s (who .desk) (who .time) out) (who .desk) (who .time)
+    taken-served (storedShares n (who .desk) (s .marks)) (ownOf n s (who .desk) (who .time) out) (who .desk) (who .time)
     (readOf rest .used) rest (readOf rest .unit) (k a b) (reads-known rest)))
 
-pub served : (s : Tables) (who : Name) (rest out : List ℕ) → count (mine (who .desk)) (placesOf (desksOf (s .marks)) s) < ownPlaces
+pub served : (s : Tables) (who : Name) (rest out : List ℕ) → opensOf (who .desk) (s .marks) < ownPlaces
     → Serves (receivedAt s who rest out .answer .outcome)
 served s who rest out k = let-through s who rest out (λ a b c. record { below = omega arith; share = inl k })
+
+-- in good tables, where a walk finds fewer than two. A desk that is not below n is refused by 1
+pub served-walked : (n : ℕ) (s : Tables) → Good n s → (who : Name) (rest out : List ℕ) → count (mine (who .desk)) (placesOf n s) < ownPlaces
+    → Serves (receivedAt s who rest out .answer .outcome)
+served-walked n s g who rest out k =
+    let-through s who rest out
+    (λ a b c.
+    let e = g .stored .opens (who .desk) (omega (arith, below _ _ (or-none _ _ a .0), g .head, g .to)) in
+    record { below = omega arith; share = inl (omega arith) })

@@ -1,17 +1,17 @@
 -- What a desk sees of good tables, and what a call does to it: the view of the desk that calls becomes what its own things say, that of
 -- every other desk stays, and so does all that lies beyond what n desks need. Assumes nothing.
-use Prim.Native.Nat.{ℕ, _+_, _-_, _<_}
+use Prim.Native.Nat.{ℕ, _+_, _-_, _*_, _<_}
 use native.Mathlib.Omega.{arith}
 use mathlib.Core.Path.{_≡_, refl, sym, ap, _∙_}
 use mathlib.Core.Bool.{Bool, true, false}
 use mathlib.Core.Logic.{_≢_}
 use mathlib.Core.List.{List, []}
-use lib.ListN.{drop, replicate, length-replicate}
+use lib.ListN.{take, drop, replicate, length-replicate}
 use lib.Seq.{drop-at}
 use Rattle.laws.specs.Rows.{_⇒_⁏_, _=?_, each, yes, no, ge, eq, eq-of, ne-of}
-use Rattle.laws.specs.Region.{drop-sets-past}
+use Rattle.laws.specs.Region.{splice, drop-sets-past}
 use Rattle.laws.specs.Table.{bit, count}
-use Rattle.paper.specs.Limits.{places, rowsNeed, marksNeed, storesNeed}
+use Rattle.paper.specs.Limits.{headSize, marksEach, places, rowsNeed, marksNeed, storesNeed}
 use Rattle.paper.specs.declared.Name.{Name}
 use Rattle.sample.specs.declared.Place.{Place}
 use Rattle.sample.specs.Place.{closed}
@@ -19,11 +19,11 @@ use Rattle.style.specs.Shown.{shown}
 use Rattle.desk.specs.declared.Shares.{Shares}
 use Rattle.desk.specs.Desk.{Own, After, Given, own, newestOf}
 use Rattle.memory.specs.Table.{mine}
-use Rattle.memory.specs.Relay.{Tables, placesOf, rowOf, marksOf, storeOf, openAt, sharesOf, placed, putBack, short, Prepared}
-use Rattle.memory.specs.Relay.{freshMarks, setUp, ordered, Done, settled, receivedAmong, receivedAt, yielded, Released, returned}
+use Rattle.memory.specs.Relay.{Tables, placesOf, rowOf, marksOf, storeOf, openAt, sharesOf, storedShares, placed, putBack, short}
+use Rattle.memory.specs.Relay.{Prepared, freshMarks, setUp, ordered, Done, settled, receivedAmong, receivedAt, yielded, Released, returned}
 use Rattle.memory.specs.Relay.{givenUpAmong, givenUpAt, lookedUpAmong, lookedUp}
 use Rattle.good.specs.Places.{Moved}
-use Rattle.good.specs.Good.{name, Good, no-stranger, no-lack, no-lack-three, fresh-length, Left, Fits, fits}
+use Rattle.good.specs.Good.{name, Good, shares-are, no-stranger, no-lack, no-lack-three, fresh-length, Left, Fits, fits}
 use Rattle.good.specs.Good.{receive-left, give-up-left, receive-each, give-up-each}
 
 -- its open sample of each time (a closed place where there is none), how many are open, its row of finished times, marks and store
@@ -78,23 +78,29 @@ module _ (n : ℕ) (s : Tables) (desk time : ℕ) (out : List ℕ) (o : Own) (g 
   m : Moved desk time (o .place) (placesOf n s) (placesOf n (putBack n s desk time o))
   m = f .moved
 
+  -- a desk's marks are behind the head
+  put-marks : (e : ℕ) → marksOf e (putBack n s desk time o .marks)
+      ≡ marksOf e (splice (headSize + marksEach * desk) marksEach (o .marks) (s .marks))
+  put-marks e = ap (take marksEach) (f .counted (headSize + marksEach * e) (omega arith))
+
   put-own : view n desk (putBack n s desk time o) ≡ seenAfter (view n desk s) time o
   put-own =
       same-view _ _
       (λ u. each (λ (p : Place). openAt desk u (placesOf n (putBack n s desk time o)) ≡ p) (u =? time) (o .place) (openAt desk u (placesOf n s))
       (λ e. rw (eq-of u time e) (m .own-open (g .fair .once desk time)))
       (λ e. m .other-open desk u (λ a. ne-of _ _ e)))
-      (omega (arith, m .own-mine)) (f .rows .same) (f .marks .same) (f .stores .same)
+      (omega (arith, m .own-mine)) (f .rows .same) (put-marks desk ∙ f .marks .same) (f .stores .same)
 
   put-other : (e : ℕ) → e ≢ desk → view n e (putBack n s desk time o) ≡ view n e s
   put-other e q =
-      same-view _ _ (λ u. m .other-open e u (λ a b. q a)) (m .other-mine e q) (f .rows .other e q) (f .marks .other e q) (f .stores .other e q)
+      same-view _ _ (λ u. m .other-open e u (λ a b. q a)) (m .other-mine e q) (f .rows .other e q) (put-marks e ∙ f .marks .other e q)
+      (f .stores .other e q)
 
   put-beyond : Beyond n s (putBack n s desk time o)
   put-beyond = record {
     places = drop-at (placed desk time (o .place) (placesOf n s)) (drop (places n) (s .places)) (places n) (f .places);
     rows = f .rows .beyond;
-    marks = f .marks .beyond;
+    marks = f .counted (marksNeed n) (omega arith) ∙ f .marks .beyond;
     stores = f .stores .beyond;
   }
 
@@ -145,20 +151,27 @@ givesUp v time = yielded false (ownIn v time []) time
 
 module _ (n : ℕ) (s : Tables) (g : Good n s) (desk : ℕ) (h : desk < n) where
   module _ (time : ℕ) (rest out : List ℕ) where
+    -- by the shares as they are stored, and so as a walk finds them
+    stored-is : receivedAt s (name desk time) rest out
+        ≡ settled n s desk time (receives (storedShares n desk (s .marks)) (view n desk s) desk time rest out)
+    unfolding receivedAmong
+    stored-is =
+        let x = storedShares n desk (s .marks) in
+        ap (λ (k : ℕ). receivedAmong k s desk time rest out) (g .head)
+        ∙ ap (λ (one : Bool). settled n s desk time (ordered one x (ownIn (view n desk s) time out) desk time rest))
+        (sym (no _ true (no-stranger n desk s g h) (sym (no-lack n s g))))
+
     pub receive-is : receivedAt s (name desk time) rest out
         ≡ settled n s desk time (receives (sharesOf n desk (placesOf n s)) (view n desk s) desk time rest out)
-    unfolding receivedAmong
     receive-is =
-        ap (λ (k : ℕ). receivedAmong k s desk time rest out) (g .head)
-        ∙ ap
-        (λ (one : Bool). settled n s desk time (ordered one (sharesOf n desk (placesOf n s)) (ownIn (view n desk s) time out) desk time rest))
-        (sym (no _ true (no-stranger n desk s g h) (sym (no-lack n s g))))
+        stored-is ∙ ap (λ (x : Shares). settled n s desk time (receives x (view n desk s) desk time rest out)) (shares-are n desk s g h)
 
     pub receive-own : view n desk (receivedAt s (name desk time) rest out .tables)
         ≡ seenAfter (view n desk s) time (receives (sharesOf n desk (placesOf n s)) (view n desk s) desk time rest out .own)
     receive-own =
-        ap (λ (r : Done). view n desk (r .tables)) receive-is
+        ap (λ (r : Done). view n desk (r .tables)) stored-is
         ∙ put-own n s desk time out _ g h (receive-left n s desk time false rest out)
+        ∙ ap (λ (x : Shares). seenAfter (view n desk s) time (receives x (view n desk s) desk time rest out .own)) (shares-are n desk s g h)
 
     -- the sample as the call leaves it stands in the table: what is kept is never lost for want of a place
     pub receive-stands : openAt desk time (placesOf n (receivedAt s (name desk time) rest out .tables))

@@ -33,7 +33,7 @@ use Rattle.style.specs.Store as S
 use Rattle.desk.specs.declared.Shares.{Shares}
 use Rattle.desk.specs.Desk.{Own, After, wholeTaken, sampleOf, completed, joining, descriptionTaken, taken, received}
 use Rattle.memory.specs.declared.Started.the-variants.{Ready}
-use Rattle.memory.specs.Relay.{Tables, placesOf, ownOf, sharesOf, stranger, lacking, setUp, ordered, receivedAmong, receivedAt}
+use Rattle.memory.specs.Relay.{Tables, ownOf, storedShares, stranger, lacking, setUp, ordered, receivedAmong, receivedAt}
 use Rattle.good.specs.Good.{name, Good}
 use Rattle.good.specs.Leaves.{part-sane}
 use Rattle.peace.specs.Run.{Call, receive, give-up, lookup, Got, answered, released, shown, got, run}
@@ -159,7 +159,7 @@ good-hands-well : (n : ℕ) (s : Tables) → Good n s → (who : Name) (rest out
 unfolding receivedAmong
 good-hands-well n s g who rest out =
     subst (λ (k : ℕ). let a = receivedAmong k s (who .desk) (who .time) rest out in HandsWell (a .answer .outcome) (a .out)) (sym (g .head))
-    (ordered-hands-well (stranger n (who .desk) or lacking n s) (sharesOf n (who .desk) (placesOf n s))
+    (ordered-hands-well (stranger n (who .desk) or lacking n s) (storedShares n (who .desk) (s .marks))
     (ownOf n s (who .desk) (who .time) out) (who .desk) (who .time) rest (g .well _ .sane))
 
 good-got : (n : ℕ) (s : Tables) (c : Call) → Good n s → GotWell (got s c)

@@ -1,17 +1,13 @@
-// Which places a call looks at, what the shares hear of them, and which place it keeps or frees.
+// Which places a call looks at, and which one it keeps or frees.
 use asks::Arrival;
 use desk::GivenUp;
-use desk::Shares;
 use paper::Name;
 use paper::limits::DESKS_MOST;
-use paper::limits::OWN_PLACES;
 use paper::limits::PLACES_EACH;
-use table::Seen;
 use unit::Reading;
 ghost use mathlib.Core.Path.{_≡_};
 ghost use Rattle.memory.specs.Relay.{desksOf};
-ghost use Rattle.looks.specs.Looks.{reachOf, reachFor, askedOf, beyondOf, commonSeen, commonHeard, sharesSeen, Bounded};
-ghost use Rattle.looks.specs.Looks.{spotOf, freedAt};
+ghost use Rattle.looks.specs.Looks.{reachOf, reachFor, askedOf, spotOf, freedAt};
 
 // How many of the places that are lent are the desks'; none where their number is improper.
 pub fn reach(marks: &[u32], who: Name, len: usize) -> usize
@@ -43,15 +39,6 @@ pub fn asked(at: usize, m: usize) -> usize
     m
 }
 
-pub fn beyond(opens: usize, m: usize) -> usize
-    ensures { λ r. ⌜ r ≡ beyondOf opens m ⌝ }
-{
-    if opens < OWN_PLACES {
-        return 0;
-    }
-    m
-}
-
 pub fn spot(at: usize, low: usize, m: usize, len: usize, x: Arrival) -> usize
     ensures { λ r. ⌜ r ≡ spotOf at low m len (x .part .total) ⌝ }
 {
@@ -65,43 +52,6 @@ pub fn spot(at: usize, low: usize, m: usize, len: usize, x: Arrival) -> usize
         }
     }
     len
-}
-
-fn common_use(each: [usize; DESKS_MOST], n: usize) -> usize
-    requires { ⌜ Bounded each ⌝ }
-    ensures { λ r. ⌜ r ≡ commonSeen each n ⌝ }
-{
-    let k = octets::least(n, DESKS_MOST);
-    let mut common = 0;
-    let mut e = 0;
-    while e < k {
-        common += octets::less(each[e], OWN_PLACES);
-        e += 1;
-    }
-    common
-}
-
-fn common_heard(opens: usize, each: [usize; DESKS_MOST], n: usize) -> usize
-    requires { ⌜ Bounded each ⌝ }
-    ensures { λ r. ⌜ r ≡ commonHeard opens each n ⌝ }
-{
-    if opens < OWN_PLACES {
-        return 0;
-    }
-    common_use(each, n)
-}
-
-pub fn shares(opens: usize, seen: Seen, marks: &[u32], who: Name) -> Shares
-    requires { ⌜ Bounded (seen .opens) ⌝ }
-    ensures { λ r. ⌜ r ≡ sharesSeen opens (seen .opens) (desksOf (now (marks .entry))) ⌝ }
-{
-    let n = gate::desks_of(marks);
-    let each = seen.opens;
-    Shares {
-        opens,
-        common: common_heard(opens, each, n),
-        desks: n,
-    }
 }
 
 pub fn freed_at(g: GivenUp, at: usize, len: usize) -> usize

@@ -1,4 +1,5 @@
 pub mod Table
 pub mod Relay
+pub mod Counted
 pub mod Back
 pub mod Lent

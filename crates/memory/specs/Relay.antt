@@ -5,12 +5,12 @@ use mathlib.Core.Bool.{Bool, not}
 use mathlib.Core.List.{List, [], _∷_, _++_}
 use lib.ListN.{length, take, drop, getD, set, replicate}
 use lib.Seq.{sets}
-use Rattle.laws.specs.Rows.{_⇒_⁏_, _or_, _<?_, _=?_}
+use Rattle.laws.specs.Rows.{_⇒_⁏_, _or_, _and_, _<?_, _=?_}
 use Rattle.laws.specs.Region.{part, splice}
-use Rattle.laws.specs.Table.{seek, count}
+use Rattle.laws.specs.Table.{bit, seek, count}
 use Rattle.laws.specs.Sums.{sum}
-use Rattle.paper.specs.Limits.{sampleMost, finishedMost, inBand, desksMost, ownPlaces, marksEach, storeSize, headSize, desksAt}
-use Rattle.paper.specs.Limits.{places, rowsNeed, marksNeed, storesNeed}
+use Rattle.paper.specs.Limits.{sampleMost, finishedMost, inBand, desksMost, ownPlaces, marksEach, storeSize, headSize, desksAt, commonAt}
+use Rattle.paper.specs.Limits.{opensAt, markMost, places, rowsNeed, marksNeed, storesNeed}
 use Rattle.paper.specs.Words.{numberOf}
 use Rattle.paper.specs.declared.Refusal.the-variants as R
 use Rattle.paper.specs.declared.Answer.{Answer}
@@ -66,8 +66,19 @@ ownOf n s desk time out =
 abbrev pub commonUse : (n : ℕ) → List Place → ℕ
 commonUse n l = sum n (λ (e : ℕ). count (mine e) l - ownPlaces)
 
+-- as a walk over the places finds them
 abbrev pub sharesOf : (n desk : ℕ) → List Place → Shares
 sharesOf n desk l = record { opens = count (mine desk) l; common = commonUse n l; desks = n }
+
+-- as they are stored in the head of the marks, from where a call takes them: the common use, and how many samples a desk has open
+abbrev pub commonOf : (marks : List ℕ) → ℕ
+commonOf marks = getD marks commonAt 0
+
+abbrev pub opensOf : (desk : ℕ) → (marks : List ℕ) → ℕ
+opensOf desk marks = getD marks (opensAt + desk) 0
+
+abbrev pub storedShares : (n desk : ℕ) → (marks : List ℕ) → Shares
+storedShares n desk marks = record { opens = opensOf desk marks; common = commonOf marks; desks = n }
 
 -- ---- what becomes of the tables
 -- p is from now on the desk's sample of this time: it stands where that stood; where none stood, in the lowest free place
@@ -80,13 +91,46 @@ standsAt desk time p l =
 abbrev pub placed : (desk time : ℕ) → Place → List Place → List Place
 placed desk time p l = set l (standsAt desk time p l) p
 
+-- that place is open, before the call and after it
+abbrev pub wasOpen : (desk time : ℕ) → Place → List Place → Bool
+wasOpen desk time p l = getD l (standsAt desk time p l) closed .used
+
+abbrev pub isOpen : (desk time : ℕ) → Place → List Place → Bool
+isOpen desk time p l = getD (placed desk time p l) (standsAt desk time p l) closed .used
+
+-- a number of open places, by one that was open or not and is now or not. In tables that nobody set up 0 does not fall and the largest
+-- number does not rise
+unfoldable pub stepped : (was is : Bool) → (k : ℕ) → ℕ
+stepped was is k =
+    was and is ⇒ k
+    ⁏ was ⇒ k - 1
+    ⁏ is and k <? markMost ⇒ k + 1
+    ⁏ k
+
+-- the common use changes where, with this one, the desk has more than two open
+unfoldable pub commonStepped : (was is : Bool) → (opens k : ℕ) → ℕ
+commonStepped was is opens k = ownPlaces <? opens + bit (not was) ⇒ stepped was is k ⁏ k
+
+-- both numbers, put down
+abbrev pub recounted : (desk : ℕ) → (was is : Bool) → (marks : List ℕ) → List ℕ
+recounted desk was is marks =
+    set (set marks (opensAt + desk) (stepped was is (opensOf desk marks))) commonAt
+    (commonStepped was is (opensOf desk marks) (commonOf marks))
+
 -- the desk's own things put back; what lies beyond the 4n places is not touched
-abbrev pub putBack : (n : ℕ) → Tables → (desk time : ℕ) → Own → Tables
-putBack n s desk time o =
+abbrev pub putOwn : (n : ℕ) → Tables → (desk time : ℕ) → Own → Tables
+putOwn n s desk time o =
     tables (placed desk time (o .place) (placesOf n s) ++ drop (places n) (s .places))
     (splice (finishedMost * desk) finishedMost (o .row) (s .rows))
     (splice (headSize + marksEach * desk) marksEach (o .marks) (s .marks))
     (splice (storeSize * desk) storeSize (o .store) (s .stores))
+
+-- and its place counted
+abbrev pub putBack : (n : ℕ) → Tables → (desk time : ℕ) → Own → Tables
+putBack n s desk time o =
+    let t = putOwn n s desk time o in
+    tables (t .places) (t .rows)
+    (recounted desk (wasOpen desk time (o .place) (placesOf n s)) (isOpen desk time (o .place) (placesOf n s)) (t .marks)) (t .stores)
 
 -- ---- refusal 1: n is not 1 to 8, the desk is not below n, or something lent is shorter than n needs
 unfoldable pub improper : (n : ℕ) → Bool
@@ -113,9 +157,9 @@ pub record Prepared : Type 0 where
   pub tables : Tables
   pub answer : Started
 
--- the head; the marks of n desks: no finished time in use, no newest value
+-- the head: n, and no sample open; the marks of n desks: no finished time in use, no newest value
 abbrev pub head : (n : ℕ) → List ℕ
-head n = n ∷ 0 ∷ 0 ∷ []
+head n = n ∷ 0 ∷ replicate desksMost 0
 
 unfoldable pub ownMarks : (n : ℕ) → List ℕ
 ownMarks zero = []
@@ -166,7 +210,7 @@ settled n s desk time a = done (putBack n s desk time (a .own)) (a .own .out) (a
 unfoldable pub receivedAmong : (n : ℕ) → Tables → (desk time : ℕ) → (rest out : List ℕ) → Done
 receivedAmong n s desk time rest out =
     settled n s desk time
-    (ordered (stranger n desk or lacking n s) (sharesOf n desk (placesOf n s)) (ownOf n s desk time out) desk time rest)
+    (ordered (stranger n desk or lacking n s) (storedShares n desk (s .marks)) (ownOf n s desk time out) desk time rest)
 
 abbrev pub receivedAt : Tables → Name → (rest out : List ℕ) → Done
 receivedAt s who rest out = receivedAmong (desksOf (s .marks)) s (who .desk) (who .time) rest out

@@ -57,13 +57,23 @@ marksEach = 2
 abbrev pub storeSize : ℕ
 storeSize = window * recordSize
 
--- the head of the marks, before those of the desks: what the relay knows of itself. Its first number is how many desks there are; two
--- more are room
-abbrev pub headSize : ℕ
-headSize = 3
-
+-- the head of the marks, before those of the desks: what the relay knows of itself. How many desks there are; the common use; and for each
+-- of eight desks how many samples it has open
 abbrev pub desksAt : ℕ
 desksAt = 0
+
+abbrev pub commonAt : ℕ
+commonAt = 1
+
+abbrev pub opensAt : ℕ
+opensAt = 2
+
+abbrev pub headSize : ℕ
+headSize = opensAt + desksMost
+
+-- the largest number that a mark holds
+abbrev pub markMost : ℕ
+markMost = 4294967295
 
 -- what n desks need: 4n places, of which 2n are common; rows of finished times; marks; stores
 abbrev pub places : ℕ → ℕ

@@ -29,9 +29,15 @@ pub const PLACES_EACH: usize = OWN_PLACES + COMMON_EACH;
 
 pub const MARKS_EACH: usize = 2;
 
-pub const HEAD_SIZE: usize = 3;
-
 pub const DESKS_AT: usize = 0;
+
+pub const COMMON_AT: usize = 1;
+
+pub const OPENS_AT: usize = 2;
+
+pub const HEAD_SIZE: usize = OPENS_AT + DESKS_MOST;
+
+pub const MARK_MOST: usize = 4294967295;
 
 pub const STORE_SIZE: usize = WINDOW * RECORD_SIZE;
 

@@ -1,13 +1,13 @@
 -- 8 and 9, exactly: of all calls they are given to those that reach the test of the shares, 8 with six of the desk's samples open, 9 with
--- two to five open and the common use 2n. Assumes nothing.
+-- two to five open and the common use 2n; by the numbers that are stored, and in good tables by what a walk finds. Assumes nothing.
 use Prim.Native.Nat.{ℕ, _≤_, _<_}
 use native.Mathlib.Omega.{arith}
-use mathlib.Core.Path.{_≡_, refl, sym, ap, _∙_}
-use mathlib.Core.Bool.{Bool, true, false, not, true≢false}
+use mathlib.Core.Path.{_≡_, refl, sym, ap, subst, _∙_}
+use mathlib.Core.Bool.{Bool, true, false, true≢false}
 use mathlib.Core.Logic.{_⊎_, inl, inr, ⊎-elim, _≢_}
 use mathlib.Core.List.{List}
 use Rattle.laws.specs.Exactly.{Exactly}
-use Rattle.laws.specs.Rows.{_⇒_⁏_, _<?_, _=?_, yes, no, lt, ge, eq, lt-of, ge-of, eq-of, ne-of}
+use Rattle.laws.specs.Rows.{_⇒_⁏_, _<?_, _=?_, yes, no, lt, ge, eq, lt-of, ge-of, eq-of, ne-of, or-none, not-is}
 use Rattle.paper.specs.Limits.{ownPlaces, openMost, common}
 use Rattle.paper.specs.Words.{numberOf}
 use Rattle.paper.specs.declared.Refusal.{Refusal}
@@ -23,8 +23,8 @@ use Rattle.sample.specs.Place.{kept}
 use Rattle.desk.specs.declared.Shares.{Shares}
 use Rattle.desk.specs.Desk.{Own, After, refuse, six, usedUp, completed, joining, taken, received}
 use Rattle.desk.specs.Effects.{asksPart, asks}
-use Rattle.memory.specs.Relay.{Tables, desksOf, placesOf, ownOf, sharesOf, ordered, receivedAmong, receivedAt}
-use Rattle.good.specs.Good.{name}
+use Rattle.memory.specs.Relay.{Tables, desksOf, placesOf, ownOf, sharesOf, storedShares, ordered, receivedAmong, receivedAt}
+use Rattle.good.specs.Good.{name, Good, shares-are, below}
 use Rattle.good.specs.Fair.{Passed}
 use Rattle.good.specs.Served.{Serves, let-through}
 use Rattle.peace.specs.Run.{receive, reaches}
@@ -56,10 +56,6 @@ unfolding _⇒_⁏_
 past true d e = absurd (true≢false (sym e))
 past false d e = (refl, e)
 
-free : (b : Bool) → not b ≡ true → b ≡ false
-free true e = sym e
-free false e = refl
-
 module _ (h : Shares) (s : Own) (time used next : ℕ) (q : Place) (x : P.Part) (d : List ℕ) (k : asksPart s time q x d ≡ true) where
   -- it is a new one, and all that is left of the order is 8, 9, 10
   asked : (s .place .used ≡ false)
@@ -71,7 +67,7 @@ module _ (h : Shares) (s : Own) (time used next : ℕ) (q : Place) (x : P.Part) 
       let b = past _ _ (a .1) in
       let c = past _ _ (b .1) in
       let e = past _ _ (c .1) in
-      (free (s .place .used) (e .1), no _ _ (a .0) (no _ _ (b .0) (no _ _ (c .0) (no _ _ (e .0) refl))))
+      (not-is (s .place .used) (e .1), no _ _ (a .0) (no _ _ (b .0) (no _ _ (c .0) (no _ _ (e .0) refl))))
 
   part-eight : Full h → joining h s time used next q x d ≡ refuse s used next R.Six
   unfolding six
@@ -84,13 +80,13 @@ module _ (h : Shares) (s : Own) (time used next : ℕ) (q : Place) (x : P.Part) 
       (yes _ _ (sym (no _ false (asked .0) (no _ false (ge _ _ (f .from)) (sym (eq _ _ (f .gone)))))) refl)
       ∙ asked .1)
 
--- ---- a call, of any tables; n is what stands in their head
+-- ---- a call, of any tables, by the numbers in their head; n is the first of them
 module _ (s : Tables) (desk time : ℕ) (rest out : List ℕ) where
   abbrev n : ℕ
   n = desksOf (s .marks)
 
   abbrev pub shares : Shares
-  shares = sharesOf n desk (placesOf n s)
+  shares = storedShares n desk (s .marks)
 
   abbrev pub Asking : Type 0
   Asking = reaches s (receive desk time rest out) ≡ true
@@ -152,3 +148,26 @@ module _ (s : Tables) (desk time : ℕ) (rest out : List ℕ) where
     λ e. let w = by-shares R.Common e (λ k. k .1 refl) in (w .0, ⊎-elim (λ f. not-both (is-eight (w .0) f) e) (λ f. f) (w .1)),
     λ w. is-nine (w .0) (w .1),
   )
+
+-- ---- in good tables, by what a walk over the places finds
+module _ (n : ℕ) (s : Tables) (g : Good n s) (desk time : ℕ) (rest out : List ℕ) where
+  -- a call that reaches the test is one of a desk below n
+  by-walk : Asking s desk time rest out → shares s desk time rest out ≡ sharesOf n desk (placesOf n s)
+  by-walk k =
+      let h = below (desksOf (s .marks)) desk (or-none _ _ (past _ _ k .0) .0) in
+      ap (λ (m : ℕ). storedShares m desk (s .marks)) (g .head) ∙ shares-are n desk s g (subst (λ (m : ℕ). desk < m) (g .head) h)
+
+  walked : (A : Type 0) (P : Shares → Type 0) → Exactly A (Asking s desk time rest out × P (shares s desk time rest out))
+      → Exactly A (Asking s desk time rest out × P (sharesOf n desk (placesOf n s)))
+  walked A P e = (
+    λ a. let w = e .0 a in (w .0, subst P (by-walk (w .0)) (w .1)),
+    λ w. e .1 (w .0, subst P (sym (by-walk (w .0))) (w .1)),
+  )
+
+  pub eight-walked : Exactly (outcome s desk time rest out ≡ O.Refused R.Six)
+      (Asking s desk time rest out × Full (sharesOf n desk (placesOf n s)))
+  eight-walked = walked _ Full (eight s desk time rest out)
+
+  pub nine-walked : Exactly (outcome s desk time rest out ≡ O.Refused R.Common)
+      (Asking s desk time rest out × Spent (sharesOf n desk (placesOf n s)))
+  nine-walked = walked _ Spent (nine s desk time rest out)

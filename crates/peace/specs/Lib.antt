@@ -3,3 +3,4 @@ pub mod Alone
 pub mod Peace
 pub mod Exactly
 pub mod Always
+pub mod Walked

@@ -26,8 +26,8 @@ use Rattle.desk.specs.declared.GivenUp.the-variants as G
 use Rattle.desk.specs.Desk.{says, facts, laterPart, sampleOf, conflicts, six, usedUp, completed, joining, received, givenUp}
 use Rattle.desk.specs.Effects.{asksPart}
 use Rattle.memory.specs.declared.Started.the-variants.{Ready}
-use Rattle.memory.specs.Relay.{Tables, desksOf, standsAt, improper, stranger, short, ownMarks, setUp, ordered, Done, receivedAmong}
-use Rattle.memory.specs.Relay.{yielded, Released, givenUpAmong}
+use Rattle.memory.specs.Relay.{Tables, desksOf, standsAt, stepped, commonStepped, improper, stranger, short, ownMarks, setUp}
+use Rattle.memory.specs.Relay.{ordered, Done, receivedAmong, yielded, Released, givenUpAmong}
 use Rattle.good.specs.Good.{name, set-up-good}
 use Rattle.good.specs.Lifted.{no-relay-receive, no-relay-give-up, no-relay-lookup}
 use Rattle.good.specs.View.{View, view}
@@ -95,8 +95,8 @@ Crowded s =
 computed : Peaceful (exactTables 2) × (Crowded (exactTables 2) × (Frugal freshView (quiet 7) × (alone freshView (quiet 7) ≡ quiet-gets)))
 unfolding _⇒_⁏_ _<?_ _=?_ readOf broken judged textJudged illText fieldsOf least badPart bare outside has agrees stands repeats oversize
     toldOf telling laid kept missing piecesIn piecesOf among laterPart sampleOf conflicts six usedUp completed joining received
-    standsAt improper stranger short ownMarks ordered receivedAmong ones markedRow markedUsed givenUp yielded givenUpAmong J.laters
-    J.going J.ordered J.sound flatten asksPart wellFormed wellWithin character chart within follows charted
+    standsAt stepped commonStepped improper stranger short ownMarks ordered receivedAmong ones markedRow markedUsed givenUp yielded
+    givenUpAmong J.laters J.going J.ordered J.sound flatten asksPart wellFormed wellWithin character chart within follows charted
 computed =
     ((refl, refl), ((refl, (refl, refl)), ((λ e. omega arith, (λ e. omega arith, (λ e. absurd (true≢false (sym e)), (λ e. absurd (true≢false (sym e)), tt)))), refl)))
 

@@ -1,6 +1,6 @@
 -- What the walks of this crate call alike, beside the table's functions: for each callee its contract, and that the machine's table of
 -- calls knows it.
---     Reach, ReachFor, SharesOf, Asked, Beyond, SpotOf, Arrived, FreedAt       the contracts.        KnowsReach ..      a table of calls knows it
+--     Reach, ReachFor, Asked, SpotOf, Arrived, FreedAt       the contracts.        KnowsReach ..      a table of calls knows it
 --     knows-reach ..                         the machine's table of calls does
 -- Assumes nothing.
 use mathlib.Core.Path.{_≡_}
@@ -24,18 +24,10 @@ use Rattle.looks.proofs.reach_for as reach-for
 use Rattle.looks.proofs.reach_for.Symbol as reach-for-def
 use Rattle.looks.proofs.reach_for.Symbol.{name as #reach-for}
 use Rattle.looks.proofs.reach_for.Met as reach-for-thm
-use Rattle.looks.proofs.shares as shares
-use Rattle.looks.proofs.shares.Symbol as shares-def
-use Rattle.looks.proofs.shares.Symbol.{name as #shares}
-use Rattle.looks.proofs.shares.Met as shares-thm
 use Rattle.looks.proofs.asked as asked
 use Rattle.looks.proofs.asked.Symbol as asked-def
 use Rattle.looks.proofs.asked.Symbol.{name as #asked}
 use Rattle.looks.proofs.asked.Met as asked-thm
-use Rattle.looks.proofs.beyond as beyond
-use Rattle.looks.proofs.beyond.Symbol as beyond-def
-use Rattle.looks.proofs.beyond.Symbol.{name as #beyond}
-use Rattle.looks.proofs.beyond.Met as beyond-thm
 use Rattle.looks.proofs.spot as spot
 use Rattle.looks.proofs.spot.Symbol as spot-def
 use Rattle.looks.proofs.spot.Symbol.{name as #spot}
@@ -63,23 +55,11 @@ module _ {M : Type 1} (𝓤 : URA M) (H : Heap 𝓤) (A : Atoms 𝓤) (mem : Mem
   abbrev pub KnowsReachFor : Calls 𝓤 H → Type 1
   KnowsReachFor C = Triple 𝓤 (C #reach-for) ReachFor
 
-  abbrev pub SharesOf : Contract 𝓤
-  SharesOf = tripleOf 𝓤 H A shares.signature (shares.spec 𝓤 H A mem run)
-
-  abbrev pub KnowsSharesOf : Calls 𝓤 H → Type 1
-  KnowsSharesOf C = Triple 𝓤 (C #shares) SharesOf
-
   abbrev pub Asked : Contract 𝓤
   Asked = tripleOf 𝓤 H A asked.signature (asked.spec 𝓤 H A mem run)
 
   abbrev pub KnowsAsked : Calls 𝓤 H → Type 1
   KnowsAsked C = Triple 𝓤 (C #asked) Asked
-
-  abbrev pub Beyond : Contract 𝓤
-  Beyond = tripleOf 𝓤 H A beyond.signature (beyond.spec 𝓤 H A mem run)
-
-  abbrev pub KnowsBeyond : Calls 𝓤 H → Type 1
-  KnowsBeyond C = Triple 𝓤 (C #beyond) Beyond
 
   abbrev pub SpotOf : Contract 𝓤
   SpotOf = tripleOf 𝓤 H A spot.signature (spot.spec 𝓤 H A mem run)
@@ -107,14 +87,8 @@ module _ {M : Type 1} (𝓤 : URA M) (H : Heap 𝓤) (𝓜 : Model 𝓤 H) (𝓖
   pub knows-reach-for : γ #reach-for ≡ reach-for-def.routine → KnowsReachFor 𝓤 H (𝓖 .A) (𝓜 .mem) (𝓡 .run) (tables 𝓤 H 𝓜 𝓡 γ .C)
   knows-reach-for p = cited 𝓤 H (ReachFor 𝓤 H (𝓖 .A) (𝓜 .mem) (𝓡 .run)) 𝓜 𝓡 γ #reach-for reach-for-def.routine p (reach-for-thm.met 𝓤 H 𝓜 𝓖 𝓡)
 
-  pub knows-shares : γ #shares ≡ shares-def.routine → KnowsSharesOf 𝓤 H (𝓖 .A) (𝓜 .mem) (𝓡 .run) (tables 𝓤 H 𝓜 𝓡 γ .C)
-  knows-shares p = cited 𝓤 H (SharesOf 𝓤 H (𝓖 .A) (𝓜 .mem) (𝓡 .run)) 𝓜 𝓡 γ #shares shares-def.routine p (shares-thm.met 𝓤 H 𝓜 𝓖 𝓡)
-
   pub knows-asked : γ #asked ≡ asked-def.routine → KnowsAsked 𝓤 H (𝓖 .A) (𝓜 .mem) (𝓡 .run) (tables 𝓤 H 𝓜 𝓡 γ .C)
   knows-asked p = cited 𝓤 H (Asked 𝓤 H (𝓖 .A) (𝓜 .mem) (𝓡 .run)) 𝓜 𝓡 γ #asked asked-def.routine p (asked-thm.met 𝓤 H 𝓜 𝓖 𝓡)
-
-  pub knows-beyond : γ #beyond ≡ beyond-def.routine → KnowsBeyond 𝓤 H (𝓖 .A) (𝓜 .mem) (𝓡 .run) (tables 𝓤 H 𝓜 𝓡 γ .C)
-  knows-beyond p = cited 𝓤 H (Beyond 𝓤 H (𝓖 .A) (𝓜 .mem) (𝓡 .run)) 𝓜 𝓡 γ #beyond beyond-def.routine p (beyond-thm.met 𝓤 H 𝓜 𝓖 𝓡)
 
   pub knows-spot : γ #spot ≡ spot-def.routine → KnowsSpotOf 𝓤 H (𝓖 .A) (𝓜 .mem) (𝓡 .run) (tables 𝓤 H 𝓜 𝓡 γ .C)
   knows-spot p = cited 𝓤 H (SpotOf 𝓤 H (𝓖 .A) (𝓜 .mem) (𝓡 .run)) 𝓜 𝓡 γ #spot spot-def.routine p (spot-thm.met 𝓤 H 𝓜 𝓖 𝓡)

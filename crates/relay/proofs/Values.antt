@@ -11,8 +11,6 @@ use Rattle.memory.proofs.Started as S
 use Rattle.memory.proofs.Started.Laws as S′
 use Rattle.desk.proofs.GivenUp as G
 use Rattle.desk.proofs.GivenUp.Laws as G′
-use Rattle.desk.proofs.Shares as H
-use Rattle.desk.proofs.Shares.Laws as H′
 use Rattle.asks.proofs.Arrival as A
 use Rattle.asks.proofs.Arrival.Laws as A′
 use Rattle.sample.proofs.Head as D
@@ -36,9 +34,6 @@ started = choice S.the-type S′.the-laws S′.the-plain tt (λ x w. refl)
 
 abbrev pub given-up : Data
 given-up = choice G.the-type G′.the-laws G′.the-plain tt (λ x w. refl)
-
-abbrev pub share : Data
-share = struct H.the-type H′.the-laws H′.the-plain (λ x w. refl)
 
 abbrev pub arrival : Data
 arrival = struct A.the-type A′.the-laws A′.the-plain (λ x w. refl)

@@ -2,7 +2,6 @@
 // `looks`, `takes` and `yields`; here are the functions over the lent places, which look at them, lend one and hand on all else.
 use asks::Arrival;
 use desk::GivenUp;
-use desk::Shares;
 use memory::Started;
 use paper::Answer;
 use paper::Name;
@@ -45,7 +44,6 @@ fn join_in(
     places: &mut [Place],
     i: usize,
     len: usize,
-    h: Shares,
     rows: &mut [u32],
     marks: &mut [u32],
     store_len: usize,
@@ -55,13 +53,12 @@ fn join_in(
     out: &mut [u8],
 ) -> Answer
     requires { ⌜ (len ≡ length (now places)) × ((i < len) × (getD (now places) i closed .used ≡ false → 1 < x .part .total)) ⌝ }
-    ensures { λ r. ⌜ JoinsAt i h (lentThree places rows marks) «store_len» who x rest out r ⌝ }
+    ensures { λ r. ⌜ JoinsAt i (lentThree places rows marks) «store_len» who x rest out r ⌝ }
 {
     let q = heads::head(places, i);
     let p = &mut places[i];
     let t = takes::step(
         len,
-        h,
         q,
         &mut p.kinds,
         &mut p.starts,
@@ -85,7 +82,6 @@ fn join_at(
     places: &mut [Place],
     i: usize,
     len: usize,
-    h: Shares,
     rows: &mut [u32],
     marks: &mut [u32],
     store_len: usize,
@@ -95,16 +91,16 @@ fn join_at(
     out: &mut [u8],
 ) -> Answer
     requires { ⌜ (len ≡ length (now places)) × (i < len → getD (now places) i closed .used ≡ false → 1 < x .part .total) ⌝ }
-    ensures { λ r. ⌜ JoinsAt i h (lentThree places rows marks) «store_len» who x rest out r ⌝ }
+    ensures { λ r. ⌜ JoinsAt i (lentThree places rows marks) «store_len» who x rest out r ⌝ }
 {
     if i < len {
-        join_in(places, i, len, h, rows, marks, store_len, who, x, rest, out)
+        join_in(places, i, len, rows, marks, store_len, who, x, rest, out)
     } else {
-        takes::step_lost(len, h, rows, marks, store_len, who, x, rest, out)
+        takes::step_lost(len, rows, marks, store_len, who, x, rest, out)
     }
 }
 
-// Takes a part. Free places and open samples are asked for only where its sample is not open.
+// Takes a part. A free place is looked for only where its sample is not open.
 fn join(
     places: &mut [Place],
     rows: &mut [u32],
@@ -122,15 +118,11 @@ fn join(
     let m = looks::reach(marks, who, len);
     let at = finds::find(places, m, who);
     let k = looks::asked(at, m);
-    let opens = counts::count(places, k, who, false);
-    let e = looks::beyond(opens, k);
-    let seen = census::scan(places, e);
-    let h = looks::shares(opens, seen, marks, who);
     let low = finds::lowest(places, k);
     let x = asks::arrived(r);
     let i = looks::spot(at, low, m, len, x);
     let s = stores.len();
-    join_at(places, i, len, h, rows, marks, s, who, x, rest, out)
+    join_at(places, i, len, rows, marks, s, who, x, rest, out)
 }
 
 // Takes a unit that is no part: the places stay.

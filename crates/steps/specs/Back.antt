@@ -9,7 +9,7 @@ use lib.ListN.{length, set, take, drop, length-take, List·getD-eq-default, take
 use lib.Seq.{set-getD}
 use Rattle.laws.specs.Rows.{_⇒_⁏_, _or_, _and_, _<?_, each, below, yes, no, lt, ge, lt-of, and-of, or-none}
 use Rattle.laws.specs.Region.{splice, splice-part}
-use Rattle.laws.specs.Table.{seek, count}
+use Rattle.laws.specs.Table.{seek}
 use Rattle.paper.specs.Limits.{finishedMost, headSize, marksEach, storeSize, desksMost, places}
 use Rattle.paper.specs.declared.Answer.{Answer}
 use Rattle.paper.specs.declared.Name.{Name}
@@ -22,28 +22,29 @@ use Rattle.unit.specs.declared.Reading.{Reading}
 use Rattle.unit.specs.Layout.{readOf, dataOf}
 use Rattle.unit.specs.Reads.{Counts, Counted, reads-counted}
 use Rattle.sample.specs.declared.Place.{Place}
-use Rattle.sample.specs.Place.{bare, closed, kept}
+use Rattle.sample.specs.Place.{bare, closed}
 use Rattle.desk.specs.declared.Shares.{Shares}
 use Rattle.desk.specs.declared.GivenUp.{GivenUp}
 use Rattle.desk.specs.declared.GivenUp.the-variants as G
 use Rattle.desk.specs.Desk.{Own, After, Given, own, says, stay, refuse, finish, isPart, partTaken, descriptionTaken, taken, received}
 use Rattle.desk.specs.Desk.{givenUp}
 use Rattle.asks.specs.declared.Arrival.{Arrival}
-use Rattle.asks.specs.Settled.{openIn, laid, hasPlace, partOf, arrivalOf, unasked, passed}
-use Rattle.table.specs.Table.{seen, stored, holds}
+use Rattle.asks.specs.Settled.{openIn, hasPlace, partOf, arrivalOf, unasked, passed}
+use Rattle.table.specs.Table.{stored as putIn, holds}
 use Rattle.others.specs.Others.{received-any as any-received}
-use Rattle.memory.specs.Table.{vacant, mine, isAt}
-use Rattle.memory.specs.Relay.{Tables, tables, desksOf, placesOf, rowOf, marksOf, storeOf, sharesOf, openAt, ownOf, placed, stranger}
-use Rattle.memory.specs.Relay.{lacking, lacksThree, Done, done, ordered, settled, receivedAmong, receivedAt, Released, released, yielded}
+use Rattle.memory.specs.Table.{vacant, isAt}
+use Rattle.memory.specs.Relay.{Tables, tables, desksOf, placesOf, rowOf, marksOf, storeOf, storedShares, openAt, ownOf, placed, wasOpen, isOpen}
+use Rattle.memory.specs.Relay.{recounted, stranger, lacking, lacksThree, Done, done, ordered, settled, receivedAmong, receivedAt, Released, released, yielded}
 use Rattle.memory.specs.Relay.{returned, givenUpAmong, givenUpAt}
-use Rattle.memory.specs.Back.{placed-open, put-same}
-use Rattle.looks.specs.Looks.{reachOf, reachFor, askedOf, beyondOf, sharesSeen, spotOf, freedAt}
+use Rattle.memory.specs.Back.{placed-open, still-open, put-same}
+use Rattle.memory.specs.Counted.{recounted-same, was-open, is-closed}
+use Rattle.looks.specs.Looks.{reachOf, reachFor, askedOf, spotOf, freedAt}
 use Rattle.steps.specs.Plan.{gated, Plan, plan, planOf, ownAt, partPlanned, passPlanned, Yield, yield, yielding, placeAfter}
 use Rattle.gate.specs.Tests.{proper, three-long, all-long}
-use Rattle.steps.specs.Kept.{beforeAt, joinedAt, laid-same}
-use Rattle.steps.specs.Found.{reach-all, reach-most, set-front, at, found, found-used, found-holds, stands-found, before-found}
+use Rattle.steps.specs.Kept.{beforeAt, keptPlaces, joinedAt, laid-same}
+use Rattle.steps.specs.Found.{reach-all, reach-most, set-front, found, found-used, found-holds, stands-found, before-found}
 use Rattle.steps.specs.Found.{goes, open-spot}
-use Rattle.steps.specs.Heard.{same-shares, part-none}
+use Rattle.steps.specs.Lone.{part-none}
 
 -- ---- receive
 module _ (s : Tables) (who : Name) where
@@ -56,21 +57,22 @@ module _ (s : Tables) (who : Name) where
   abbrev one : Bool
   one = stranger n (who .desk) or lacking n s
 
-  -- what lies in the tables, put back by the plan
-  abbrev spliced : (l : List Place) → After → Done
-  spliced l a =
+  -- what lies in the tables, put back by the plan, and the place counted
+  abbrev spliced : (l : List Place) → (was is : Bool) → After → Done
+  spliced l was is a =
       done (tables l (splice (finishedMost * who .desk) finishedMost (a .own .row) (s .rows))
-      (splice (headSize + marksEach * who .desk) marksEach (a .own .marks) (s .marks))
+      (recounted (who .desk) was is (splice (headSize + marksEach * who .desk) marksEach (a .own .marks) (s .marks)))
       (splice (storeSize * who .desk) storeSize (a .own .store) (s .stores))) (a .own .out) (a .answer)
 
   -- 1 leaves all as it stood
-  spliced-same : (p : Place) (out : List ℕ)
-      → spliced (s .places) (refuse (ownAt (who .desk) p (s .rows) (s .marks) (s .stores) out) 0 (who .time) R.Desk)
+  spliced-same : (b : Bool) (p : Place) (out : List ℕ)
+      → spliced (s .places) b b (refuse (ownAt (who .desk) p (s .rows) (s .marks) (s .stores) out) 0 (who .time) R.Desk)
       ≡ done s out (says 0 (who .time) (O.Refused R.Desk))
-  spliced-same p out =
+  spliced-same b p out =
       rw (
         splice-part (finishedMost * who .desk) finishedMost (s .rows),
         splice-part (headSize + marksEach * who .desk) marksEach (s .marks),
+        recounted-same (who .desk) b (s .marks),
         splice-part (storeSize * who .desk) storeSize (s .stores),
       )
 
@@ -116,12 +118,8 @@ module _ (s : Tables) (who : Name) where
     abbrev m : ℕ
     m = reachOf n len
 
-    abbrev hears : Shares
-    hears =
-        sharesSeen (count (mine (who .desk)) (take (askedOf (seek (isAt (who .desk) (who .time)) (take m (s .places))) m) (s .places)))
-        (seen (take (beyondOf
-        (count (mine (who .desk)) (take (askedOf (seek (isAt (who .desk) (who .time)) (take m (s .places))) m) (s .places)))
-        (askedOf (seek (isAt (who .desk) (who .time)) (take m (s .places))) m)) (s .places)) .opens) n
+    abbrev stored : Shares
+    stored = storedShares n (who .desk) (s .marks)
 
     abbrev spotAt : ℕ
     spotAt =
@@ -166,34 +164,33 @@ module _ (s : Tables) (who : Name) where
             ∙ sym (ap (λ (y : Place). y .used) v) ∙ u)))
             (λ f. each Opens _ _ _ (λ g k u. lt-of _ _ (and-of _ _ g .1)) (λ g k u. absurd (omega (arith, k))))
 
-    pub joined-is : joinedAt spotAt hears s who x rest out ≡ receivedAt s who rest out
+    pub joined-is : joinedAt spotAt s who x rest out ≡ receivedAt s who rest out
     unfolding partPlanned gated receivedAmong ordered bare _⇒_⁏_
     joined-is = go one refl
       where
         p : Place
         p = openIn (beforeAt spotAt (s .places))
 
-        o : Own
-        o = ownAt (who .desk) p (s .rows) (s .marks) (s .stores) out
-
         small : Bool
         small = length out <? 1024
 
-        made : (one small : Bool) → After
-        made one small =
+        made : (one small : Bool) → Place → After
+        made one small q =
+            let o = ownAt (who .desk) q (s .rows) (s .marks) (s .stores) out in
             one ⇒ refuse o 0 (who .time) R.Desk
             ⁏ small ⇒ refuse o 0 (who .time) R.Output
-            ⁏ partTaken hears o (who .desk) (who .time) (x .used) (x .part) bytes
+            ⁏ partTaken stored o (who .desk) (who .time) (x .used) (x .part) bytes
 
-        kept-at : After → Done
-        kept-at a = spliced (set (s .places) spotAt (laid (beforeAt spotAt (s .places)) (a .own .place))) a
+        kept-at : (i : ℕ) → After → Done
+        kept-at i a =
+            let l = keptPlaces i (s .places) (a .own .place) in spliced l (beforeAt i (s .places) .used) (beforeAt i l .used) a
 
         theirs : (one small : Bool) → After
         theirs one small =
-            let o′ = ownOf n s (who .desk) (who .time) out in
-            one ⇒ refuse o′ 0 (who .time) R.Desk
-            ⁏ small ⇒ refuse o′ 0 (who .time) R.Output
-            ⁏ received (sharesOf n (who .desk) (placesOf n s)) o′ (who .desk) (who .time) rest
+            let o = ownOf n s (who .desk) (who .time) out in
+            one ⇒ refuse o 0 (who .time) R.Desk
+            ⁏ small ⇒ refuse o 0 (who .time) R.Output
+            ⁏ received stored o (who .desk) (who .time) rest
 
         -- the desk's own things and what it makes of them, over the first k places
         own-at : (k : ℕ) → Own
@@ -202,10 +199,14 @@ module _ (s : Tables) (who : Name) where
         makes : (k : ℕ) → After
         makes k =
             small ⇒ refuse (own-at k) 0 (who .time) R.Output
-            ⁏ received (sharesOf n (who .desk) (take k (s .places))) (own-at k) (who .desk) (who .time) rest
+            ⁏ received stored (own-at k) (who .desk) (who .time) rest
 
         outcome : (k : ℕ) → Done
-        outcome k = spliced (placed (who .desk) (who .time) (makes k .own .place) (take k (s .places)) ++ drop k (s .places)) (makes k)
+        outcome k =
+            let q = makes k .own .place in
+            let l = take k (s .places) in
+            spliced (placed (who .desk) (who .time) q l ++ drop k (s .places)) (wasOpen (who .desk) (who .time) q l)
+            (isOpen (who .desk) (who .time) q l) (makes k)
 
         fits : m ≤ len
         fits = reach-most n len
@@ -215,43 +216,41 @@ module _ (s : Tables) (who : Name) where
             ap (λ (i : ℕ). openIn (beforeAt i (s .places))) spot-is
             ∙ open-spot (who .desk) (who .time) m (s .places) fits (x .part .total)
 
-        made-is : n ≤ desksMost → made false small ≡ makes m
-        made-is few =
-            ap (λ (q : Place).
-            let o′ = ownAt (who .desk) q (s .rows) (s .marks) (s .stores) out in
-            small ⇒ refuse o′ 0 (who .time) R.Output ⁏ partTaken hears o′ (who .desk) (who .time) (x .used) (x .part) bytes) p-is
-            ∙ ap (λ (y : After). small ⇒ refuse (own-at m) 0 (who .time) R.Output ⁏ y)
-            (same-shares n (who .desk) (who .time) m (s .places) fits few (own-at m) (x .used) _ _ (x .part) bytes
-            (found-used (who .desk) (who .time) m (s .places) fits)
-            ∙ received-part (sharesOf n (who .desk) (take m (s .places))) (own-at m))
+        made-is : made false small p ≡ makes m
+        made-is =
+            ap (made false small) p-is
+            ∙ ap (λ (y : After). small ⇒ refuse (own-at m) 0 (who .time) R.Output ⁏ y) (received-part stored (own-at m))
 
         never : x .part .total ≤ 1 → m ≤ seek (isAt (who .desk) (who .time)) (take m (s .places)) → makes m .own .place .used ≡ false
         never t k =
             let none : openAt (who .desk) (who .time) (take m (s .places)) ≡ closed =
             List·getD-eq-default (take m (s .places)) closed (omega (arith, length-take m (s .places))) in
             each (λ (y : After). y .own .place .used ≡ false) small _ _ (λ f. ap (λ (q : Place). q .used) none)
-            (λ f. subst (λ (y : After). y .own .place .used ≡ false)
-            (received-part (sharesOf n (who .desk) (take m (s .places))) (own-at m))
-            (part-none (sharesOf n (who .desk) (take m (s .places))) (own-at m) (who .desk) (who .time) (x .used)
-            (x .part) bytes none counts t))
+            (λ f. subst (λ (y : After). y .own .place .used ≡ false) (received-part stored (own-at m))
+            (part-none stored (own-at m) (who .desk) (who .time) (x .used) (x .part) bytes none counts t))
 
-        kept-is : n ≤ desksMost → kept-at (made false small) ≡ outcome m
-        kept-is few =
-            ap kept-at (made-is few)
-            ∙ ap (λ (i : ℕ). spliced (set (s .places) i (laid (beforeAt i (s .places)) (makes m .own .place))) (makes m)) spot-is
-            ∙ ap (λ (l : List Place). spliced l (makes m))
-            (goes (who .desk) (who .time) m (s .places) fits (x .part .total) (makes m .own .place) never)
+        kept-is : kept-at spotAt (made false small p) ≡ outcome m
+        kept-is =
+            let g = goes (who .desk) (who .time) m (s .places) fits (x .part .total) (makes m .own .place) never in
+            ap (kept-at spotAt) made-is ∙ ap (λ (i : ℕ). kept-at i (makes m)) spot-is
+            ∙ (λ i. spliced (g .goes i) (g .was i) (g .is i) (makes m))
 
-        go : (b : Bool) → one ≡ b → kept-at (made b small) ≡ settled n s (who .desk) (who .time) (theirs b small)
+        -- 1 leaves the place, and with it the places and the numbers
+        unkept : (a : After) → a .own .place ≡ p
+            → kept-at spotAt a ≡ spliced (s .places) (beforeAt spotAt (s .places) .used) (beforeAt spotAt (s .places) .used) a
+        unkept a e =
+            ap (λ (l : List Place). spliced l (beforeAt spotAt (s .places) .used) (beforeAt spotAt l .used) a)
+            (ap (keptPlaces spotAt (s .places)) e ∙ ap (set (s .places) spotAt) (laid-same (beforeAt spotAt (s .places)))
+            ∙ set-getD (s .places) spotAt closed)
+
+        go : (b : Bool) → one ≡ b → kept-at spotAt (made b small p) ≡ settled n s (who .desk) (who .time) (theirs b small)
         go true e =
-            ap (λ (q : Place). spliced (set (s .places) spotAt q) (refuse o 0 (who .time) R.Desk)) (laid-same (beforeAt spotAt (s .places)))
-            ∙ ap (λ (l : List Place). spliced l (refuse o 0 (who .time) R.Desk)) (set-getD (s .places) spotAt closed)
-            ∙ spliced-same p out ∙ sym (refused-same out)
+            unkept (made true small p) refl ∙ spliced-same (beforeAt spotAt (s .places) .used) p out ∙ sym (refused-same out)
         go false e =
             let a = or-none _ _ e in
             let w = proper n (who .desk) (a .0) in
             let l = all-long n len (length (s .rows)) (length (s .marks)) (length (s .stores)) (a .1) in
-            kept-is (w .0) ∙ ap outcome (reach-all n len (w .0) (l .0 .0))
+            kept-is ∙ ap outcome (reach-all n len (w .0) (l .0 .0))
 
   -- ---- any other unit: the places stay
   module _ (rest out : List ℕ) (r : Reading) (read : r ≡ readOf rest) (no-part : isPart (r .unit) ≡ false) where
@@ -268,8 +267,10 @@ module _ (s : Tables) (who : Name) where
         → plan p a rows marks stores out′ ≡ planned p → done (tables (s .places) rows marks stores) out′ a ≡ receivedAt s who rest out
     unfolding passPlanned gated receivedAmong ordered _⇒_⁏_
     left-is a rows marks stores out′ p k e =
-        ap (λ (z : Plan). done (tables (s .places) (z .rows) (z .marks) (z .stores)) (z .out) (z .answer)) e
-        ∙ ap (spliced (s .places)) same ∙ ap (λ (l : List Place). spliced l theirs) (sym all)
+        ap (λ (z : Plan). done (tables (s .places) (z .rows) (z .marks) (z .stores)) (z .out) (z .answer)) (e ∙ ap planned-of same)
+        ∙ ap (λ (k : List ℕ). done (tables (s .places) (z .rows) k (z .stores)) (z .out) (z .answer))
+        (sym (recounted-same (who .desk) was (z .marks)))
+        ∙ sym (λ i. spliced (all i) was (still i) theirs)
       where
         made : Place → After
         made q =
@@ -283,7 +284,7 @@ module _ (s : Tables) (who : Name) where
             let o = ownOf n s (who .desk) (who .time) out in
             one ⇒ refuse o 0 (who .time) R.Desk
             ⁏ length out <? 1024 ⇒ refuse o 0 (who .time) R.Output
-            ⁏ received (sharesOf n (who .desk) (placesOf n s)) o (who .desk) (who .time) rest
+            ⁏ received (storedShares n (who .desk) (s .marks)) o (who .desk) (who .time) rest
 
         same : made p ≡ theirs
         same =
@@ -291,10 +292,24 @@ module _ (s : Tables) (who : Name) where
             ∙ ap (λ (y : After).
             let o = ownOf n s (who .desk) (who .time) out in
             one ⇒ refuse o 0 (who .time) R.Desk ⁏ length out <? 1024 ⇒ refuse o 0 (who .time) R.Output ⁏ y)
-            (received-any (sharesOf n (who .desk) (placesOf n s)) (ownOf n s (who .desk) (who .time) out))
+            (received-any (storedShares n (who .desk) (s .marks)) (ownOf n s (who .desk) (who .time) out))
 
         stays : theirs .own .place ≡ openAt (who .desk) (who .time) (placesOf n s)
         stays = ap (λ (y : After). y .own .place) (sym same) ∙ sym (ap (λ (z : Plan). z .place) e) ∙ k
+
+        planned-of : After → Plan
+        planned-of = planOf (who .desk) (s .rows) (s .marks) (s .stores)
+
+        z : Plan
+        z = planned-of theirs
+
+        was : Bool
+        was = wasOpen (who .desk) (who .time) (theirs .own .place) (placesOf n s)
+
+        still : isOpen (who .desk) (who .time) (theirs .own .place) (placesOf n s) ≡ was
+        still =
+            subst (λ (q : Place). isOpen (who .desk) (who .time) q (placesOf n s) ≡ wasOpen (who .desk) (who .time) q (placesOf n s))
+            (sym stays) (still-open (who .desk) (who .time) (placesOf n s))
 
         all : placed (who .desk) (who .time) (theirs .own .place) (placesOf n s) ++ drop (places n) (s .places) ≡ s .places
         all =
@@ -374,13 +389,13 @@ module _ (s : Tables) (who : Name) where
   it = found (who .desk) (who .time) reach (s .places) (reach-most n len)
 
   abbrev freeing : GivenUp → List Place
-  freeing r = stored reach (freedAt r (seek (isAt (who .desk) (who .time)) (take reach (s .places))) len) closed (s .places)
+  freeing r = putIn reach (freedAt r (seek (isAt (who .desk) (who .time)) (take reach (s .places))) len) closed (s .places)
 
   pub given-up-is : (r : GivenUp) (rows marks : List ℕ)
       → ((p : Place) → p .used ≡ (seek (isAt (who .desk) (who .time)) (take reach (s .places)) <? reach)
       → yield (placeAfter r p) r rows marks ≡ yielding len p (s .rows) (s .marks) who)
       → released (tables (freeing r) rows marks (s .stores)) r ≡ givenUpAt s who
-  unfolding yielding givenUpAmong yielded givenUp _⇒_⁏_
+  unfolding yielding givenUpAmong yielded givenUp bare _⇒_⁏_
   given-up-is r rows marks e =
       ap (λ (z : Yield). released (tables (freeing (z .answer)) (z .rows) (z .marks) (s .stores)) (z .answer))
       (e it (found-used (who .desk) (who .time) reach (s .places) (reach-most n len))) ∙ go lack refl
@@ -397,18 +412,20 @@ module _ (s : Tables) (who : Name) where
       let-go : Given → Released
       let-go a =
           released (tables (freeing (a .answer)) (splice (finishedMost * who .desk) finishedMost (a .own .row) (s .rows))
-          (splice (headSize + marksEach * who .desk) marksEach (a .own .marks) (s .marks)) (s .stores)) (a .answer)
+          (recounted (who .desk) (it .used) (a .own .place .used)
+          (splice (headSize + marksEach * who .desk) marksEach (a .own .marks) (s .marks))) (s .stores)) (a .answer)
 
       -- a refusal frees nothing
       none-freed : (w : Refusal) → freeing (G.Refused w) ≡ s .places
       none-freed w = sym (no _ _ (ge _ _ (reach-most n len)) refl)
 
-      same : (p : Place) (w : Refusal) → let-go (record { own = hers p []; answer = G.Refused w }) ≡ released s (G.Refused w)
-      same p w =
+      same : (w : Refusal) → let-go (record { own = hers it []; answer = G.Refused w }) ≡ released s (G.Refused w)
+      same w =
           rw (
             none-freed w,
             splice-part (finishedMost * who .desk) finishedMost (s .rows),
             splice-part (headSize + marksEach * who .desk) marksEach (s .marks),
+            recounted-same (who .desk) (it .used) (s .marks),
           )
 
       held : (w : Refusal) → released s (G.Refused w)
@@ -441,10 +458,20 @@ module _ (s : Tables) (who : Name) where
             answer = G.Refused w;
           })) (sym q)
 
+      used-is : reach ≡ places n → it .used ≡ openAt (who .desk) (who .time) (placesOf n s) .used
+      used-is q = ap (λ (k : ℕ). openAt (who .desk) (who .time) (take k (s .places)) .used) q
+
       case-of : reach ≡ places n → (b : Bool) → it .used ≡ b
           → let-go (settles b it []) ≡ returned n s (who .desk) (who .time) (settles b it (storeOf (who .desk) (s .stores)))
-      case-of q true u = rw (freed-at q u, splice-part (storeSize * who .desk) storeSize (s .stores))
-      case-of q false u = same it R.NotOpen ∙ stayed q R.NotOpen
+      case-of q true u =
+          rw (
+            freed-at q u,
+            splice-part (storeSize * who .desk) storeSize (s .stores),
+            was-open (who .desk) (who .time) (placesOf n s) closed,
+            is-closed (who .desk) (who .time) (placesOf n s),
+            ← (used-is q),
+          )
+      case-of q false u = same R.NotOpen ∙ stayed q R.NotOpen
 
       through : n ≤ desksMost → places n ≤ len → let-go (givenUp (hers it []) (who .time))
           ≡ returned n s (who .desk) (who .time) (givenUp (ownOf n s (who .desk) (who .time) []) (who .time))
@@ -458,7 +485,7 @@ module _ (s : Tables) (who : Name) where
 
       go : (b : Bool) → lack ≡ b → let-go (gives b it [])
           ≡ returned n s (who .desk) (who .time) (gives b (openAt (who .desk) (who .time) (placesOf n s)) (storeOf (who .desk) (s .stores)))
-      go true f = same it R.Desk ∙ held R.Desk
+      go true f = same R.Desk ∙ held R.Desk
       go false f =
           let a = or-none _ _ f in
           let w = proper n (who .desk) (a .0) in

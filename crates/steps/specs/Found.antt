@@ -2,22 +2,22 @@
 use Prim.Native.Nat.{ℕ, _≤_, _<_, min}
 use native.Mathlib.Omega.{arith}
 use mathlib.Core.Path.{_≡_, refl, sym, ap, _∙_}
-use mathlib.Core.Bool.{Bool, true, false, not, true≢false}
+use mathlib.Core.Bool.{Bool, true, false, true≢false}
 use mathlib.Core.List.{List, _++_}
-use lib.ListN.{length, getD, set, take, drop, length-take, List·getD-eq-default, take-append-drop}
-use lib.Seq.{set-out, set-getD, getD-take, length-take-le, set-append-left}
-use Rattle.laws.specs.Rows.{_⇒_⁏_, _or_, _and_, _<?_, each, yes, no, lt, ge, lt-of, ge-of, and-of}
+use lib.ListN.{length, getD, set, take, drop, List·getD-eq-default, take-append-drop}
+use lib.Seq.{set-out, set-getD, getD-set-same, getD-take, length-take-le, set-append-left}
+use Rattle.laws.specs.Rows.{_⇒_⁏_, _or_, _and_, _<?_, each, yes, no, lt, ge, lt-of, ge-of, and-of, not-is}
 use Rattle.laws.specs.Table.{seek, seek-hit}
 use Rattle.paper.specs.Limits.{desksMost, places}
 use Rattle.sample.specs.declared.Place.{Place}
-use Rattle.sample.specs.Place.{bare, closed, kept}
+use Rattle.sample.specs.Place.{bare, closed}
 use Rattle.asks.specs.Settled.{openIn, laid}
-use Rattle.table.specs.Table.{seen, holds}
-use Rattle.table.specs.Turn.{opens-le}
+use Rattle.table.specs.Table.{holds}
 use Rattle.memory.specs.Table.{vacant, isAt}
-use Rattle.memory.specs.Relay.{standsAt, placed}
-use Rattle.looks.specs.Looks.{reachOf, askedOf, beyondOf, Bounded, spotOf}
-use Rattle.steps.specs.Kept.{beforeAt, open-none}
+use Rattle.memory.specs.Relay.{standsAt, placed, wasOpen, isOpen}
+use Rattle.memory.specs.Counted.{was-open, is-open, is-none}
+use Rattle.looks.specs.Looks.{reachOf, spotOf}
+use Rattle.steps.specs.Kept.{beforeAt, keptPlaces, open-none}
 
 -- ---- the table
 pub reach-all : (n len : ℕ) → n ≤ desksMost → places n ≤ len → reachOf n len ≡ places n
@@ -72,12 +72,14 @@ module _ (desk time m : ℕ) (l : List Place) (fits : m ≤ length l) where
   unfolding standsAt
   stands-new h p = sym (no _ _ (ge _ _ (omega (arith, long))) (ap (λ (k : ℕ). p .used ⇒ low ⁏ k) (sym long)))
 
-  -- p, laid where the part was kept, is where the definition puts it
+  -- p, laid where the part was kept, is where the definition puts it, and that place was and is open as it says
   abbrev spot : (total : ℕ) → ℕ
   spot total = spotOf at low m (length l) total
 
-  abbrev Goes : (i : ℕ) → Place → Type 0
-  Goes i p = set l i (laid (beforeAt i l) p) ≡ placed desk time p (take m l) ++ drop m l
+  pub record Goes (i : ℕ) (p : Place) : Type 0 where
+    pub goes : keptPlaces i l p ≡ placed desk time p (take m l) ++ drop m l
+    pub was : beforeAt i l .used ≡ wasOpen desk time p (take m l)
+    pub is : beforeAt i (keptPlaces i l p) .used ≡ isOpen desk time p (take m l)
 
   pub before-found : at < m → beforeAt at l ≡ found
   before-found h = sym (getD-take m l at closed h)
@@ -86,37 +88,68 @@ module _ (desk time m : ℕ) (l : List Place) (fits : m ≤ length l) where
   unfolding laid
   goes-found h p =
       let u : beforeAt at l .used ≡ true = ap (λ (y : Place). y .used) (before-found h) ∙ found-used ∙ lt _ _ h in
-      ap (set l at) (sym (yes _ _ u refl)) ∙ set-front m at p l fits h
-      ∙ ap (λ (i : ℕ). set (take m l) i p ++ drop m l) (sym (stands-found h p))
+      let q : p ≡ laid (beforeAt at l) p = yes _ _ u refl in
+      let i = stands-found h p in
+      record {
+        goes = ap (set l at) (sym q) ∙ set-front m at p l fits h ∙ ap (λ (i : ℕ). set (take m l) i p ++ drop m l) (sym i);
+        was = ap (λ (y : Place). y .used) (before-found h) ∙ sym (was-open desk time (take m l) p);
+        is =
+            ap (λ (y : Place). y .used) (getD-set-same l at _ closed (omega arith) ∙ sym q)
+            ∙ sym (is-open desk time (take m l) p (omega (arith, i, long)));
+      }
 
   before-low : low < m → beforeAt low l .used ≡ false
   before-low h =
       let e = seek-hit vacant (take m l) closed (omega (arith, long)) in
-      ap (λ (y : Place). y .used) (sym (getD-take m l low closed h)) ∙ free _ e
-    where
-      free : (b : Bool) → not b ≡ true → b ≡ false
-      free true e = sym e
-      free false e = refl
+      ap (λ (y : Place). y .used) (sym (getD-take m l low closed h)) ∙ not-is _ e
+
+  was-none : m ≤ at → (p : Place) → wasOpen desk time p (take m l) ≡ false
+  was-none h p = was-open desk time (take m l) p ∙ found-used ∙ ge _ _ h
 
   goes-new : m ≤ at → low < m → (p : Place) → Goes low p
-  unfolding laid _⇒_⁏_
-  goes-new h k p =
-      ap (λ (b : Bool). set l low (b ⇒ p ⁏ p .used ⇒ p ⁏ beforeAt low l)) (before-low k)
-      ∙ go (p .used) ∙ ap (λ (i : ℕ). set (take m l) i p ++ drop m l) (sym (stands-new h p))
+  unfolding laid bare _⇒_⁏_
+  goes-new h k p = record {
+    goes =
+        ap (λ (b : Bool). set l low (b ⇒ p ⁏ p .used ⇒ p ⁏ beforeAt low l)) (before-low k)
+        ∙ put (p .used) ∙ ap (λ (i : ℕ). set (take m l) i p ++ drop m l) (sym (stands-new h p));
+    was = before-low k ∙ sym (was-none h p);
+    is =
+        ap (λ (y : Place). y .used) (getD-set-same l low _ closed (omega arith))
+        ∙ ap (λ (b : Bool). (b ⇒ p ⁏ p .used ⇒ p ⁏ beforeAt low l) .used) (before-low k) ∙ open-in (p .used) refl (stands-new h p);
+  }
     where
-      go : (b : Bool) → set l low (b ⇒ p ⁏ beforeAt low l) ≡ set (take m l) (b ⇒ low ⁏ m) p ++ drop m l
-      go true = set-front m low p l fits k
-      go false = set-getD l low closed ∙ set-none m m p l fits (omega arith)
+      put : (b : Bool) → set l low (b ⇒ p ⁏ beforeAt low l) ≡ set (take m l) (b ⇒ low ⁏ m) p ++ drop m l
+      put true = set-front m low p l fits k
+      put false = set-getD l low closed ∙ set-none m m p l fits (omega arith)
+
+      open-in : (b : Bool) → p .used ≡ b → standsAt desk time p (take m l) ≡ (b ⇒ low ⁏ m)
+          → (b ⇒ p ⁏ beforeAt low l) .used ≡ isOpen desk time p (take m l)
+      open-in true u q = sym (is-open desk time (take m l) p (omega (arith, q, long)))
+      open-in false u q = before-low k ∙ sym (is-none desk time (take m l) p (omega (arith, q, long)))
 
   -- where it is kept in none, it is not to be kept, or there is none
   goes-none : m ≤ at → (p : Place) → (p .used ≡ true → m ≤ low) → Goes (length l) p
-  unfolding _⇒_⁏_
-  goes-none h p k =
-      set-out l (length l) _ (omega arith) ∙ go (p .used) k ∙ ap (λ (i : ℕ). set (take m l) i p ++ drop m l) (sym (stands-new h p))
+  unfolding bare _⇒_⁏_
+  goes-none h p k = record {
+    goes =
+        set-out l (length l) _ (omega arith) ∙ put (p .used) k ∙ ap (λ (i : ℕ). set (take m l) i p ++ drop m l) (sym (stands-new h p));
+    was = none ∙ sym (was-none h p);
+    is =
+        ap (λ (t : List Place). beforeAt (length l) t .used) (set-out l (length l) _ (omega arith))
+        ∙ none ∙ sym (is-none desk time (take m l) p (past (p .used) k (stands-new h p)));
+  }
     where
-      go : (b : Bool) → (b ≡ true → m ≤ low) → l ≡ set (take m l) (b ⇒ low ⁏ m) p ++ drop m l
-      go true k = set-none m low p l fits (k refl)
-      go false k = set-none m m p l fits (omega arith)
+      put : (b : Bool) → (b ≡ true → m ≤ low) → l ≡ set (take m l) (b ⇒ low ⁏ m) p ++ drop m l
+      put true k = set-none m low p l fits (k refl)
+      put false k = set-none m m p l fits (omega arith)
+
+      past : (b : Bool) → (b ≡ true → m ≤ low) → standsAt desk time p (take m l) ≡ (b ⇒ low ⁏ m)
+          → length (take m l) ≤ standsAt desk time p (take m l)
+      past true k q = omega (arith, q, k refl, long)
+      past false k q = omega (arith, q, long)
+
+      none : beforeAt (length l) l .used ≡ false
+      none = ap (λ (y : Place). y .used) (List·getD-eq-default l closed (omega arith))
 
   pub goes : (total : ℕ) (p : Place) → (total ≤ 1 → m ≤ at → p .used ≡ false) → Goes (spot total) p
   unfolding spotOf _⇒_⁏_
@@ -144,16 +177,3 @@ module _ (desk time m : ℕ) (l : List Place) (fits : m ≤ length l) where
     where
       none : m ≤ at → found ≡ closed
       none h = List·getD-eq-default (take m l) closed (omega (arith, long))
-
--- no desk has more open samples than there are places
-pub bounded-seen : (n len e : ℕ) (l : List Place) → e ≤ reachOf n len → Bounded (seen (take e l) .opens)
-unfolding reachOf
-bounded-seen n len e l h d =
-    let most : reachOf n len ≤ places desksMost =
-    each (λ (m : ℕ). m ≤ places desksMost) _ _ _ (λ f. omega arith) (λ f. omega (arith, ge-of _ _ f)) in
-    omega (arith, opens-le (take e l) d, length-take e l)
-
-pub beyond-most : (opens at m : ℕ) → beyondOf opens (askedOf at m) ≤ m
-unfolding beyondOf askedOf
-beyond-most opens at m =
-    each (λ (k : ℕ). k ≤ m) _ _ _ (λ f. omega arith) (λ f. each (λ (k : ℕ). k ≤ m) _ _ _ (λ g. omega arith) (λ g. omega arith))

@@ -2,5 +2,5 @@ pub mod Plan
 pub mod Kept
 pub mod Steps
 pub mod Found
-pub mod Heard
+pub mod Lone
 pub mod Back

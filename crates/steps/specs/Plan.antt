@@ -1,6 +1,6 @@
 -- The steps of a call in between: what a call leaves of everything but the table. Assumes nothing.
 use Prim.Native.Nat.{ℕ, _+_, _*_}
-use mathlib.Core.Bool.{Bool}
+use mathlib.Core.Bool.{Bool, false}
 use mathlib.Core.List.{List, []}
 use lib.ListN.{length}
 use Rattle.laws.specs.Rows.{_⇒_⁏_, _or_, _<?_}
@@ -12,13 +12,12 @@ use Rattle.paper.specs.declared.Refusal.the-variants as R
 use Rattle.unit.specs.declared.Reading.{Reading}
 use Rattle.sample.specs.declared.Place.{Place}
 use Rattle.sample.specs.Place.{closed}
-use Rattle.desk.specs.declared.Shares.{Shares}
 use Rattle.desk.specs.declared.GivenUp.{GivenUp}
 use Rattle.desk.specs.declared.GivenUp.the-variants as G
 use Rattle.desk.specs.Desk.{Own, After, Given, own, refuse, partTaken}
 use Rattle.asks.specs.declared.Arrival.{Arrival}
 use Rattle.asks.specs.Settled.{laid, passed}
-use Rattle.memory.specs.Relay.{rowOf, marksOf, storeOf, desksOf, stranger, lacks, lacksThree, yielded}
+use Rattle.memory.specs.Relay.{rowOf, marksOf, storeOf, desksOf, storedShares, recounted, stranger, lacks, lacksThree, yielded}
 
 -- ---- 1 and 2
 -- 1 (`one` says whether), 2, then what the desk makes of it
@@ -61,14 +60,20 @@ settledPlan table p rows marks stores out who a =
 abbrev pub partOfRest : Arrival → (rest : List ℕ) → List ℕ
 partOfRest x rest = part (x .part .start) (x .part .len) rest
 
-unfoldable pub partPlanned : (table : ℕ) → Shares → Place → (rows marks stores out : List ℕ) → Name → Arrival → (rest : List ℕ) → Plan
-partPlanned table h p rows marks stores out who x rest =
+unfoldable pub partPlanned : (table : ℕ) → Place → (rows marks stores out : List ℕ) → Name → Arrival → (rest : List ℕ) → Plan
+partPlanned table p rows marks stores out who x rest =
     settledPlan table p rows marks stores out who
-    (λ (s : Own). partTaken h s (who .desk) (who .time) (x .used) (x .part) (partOfRest x rest))
+    (λ (s : Own). partTaken (storedShares (desksOf marks) (who .desk) marks) s (who .desk) (who .time) (x .used) (x .part)
+    (partOfRest x rest))
 
 -- in a free place that was to be opened nothing changes where no sample was
 abbrev pub laidPlan : Place → Plan → Plan
 laidPlan before x = plan (laid before (x .place)) (x .answer) (x .rows) (x .marks) (x .stores) (x .out)
+
+-- the place, which was open or not, is counted
+abbrev pub countedPlan : (desk : ℕ) → (was : Bool) → Plan → Plan
+countedPlan desk was x =
+    plan (x .place) (x .answer) (x .rows) (recounted desk was (x .place .used) (x .marks)) (x .stores) (x .out)
 
 -- any other unit
 unfoldable pub passPlanned : (table : ℕ) → Place → (rows marks stores out : List ℕ) → Name → Reading → (rest : List ℕ) → Plan
@@ -90,13 +95,22 @@ yieldOf desk rows marks a =
     yield (a .own .place) (a .answer) (splice (finishedMost * desk) finishedMost (a .own .row) rows)
     (splice (headSize + marksEach * desk) marksEach (a .own .marks) marks)
 
+abbrev pub countedYield : (desk : ℕ) → (was : Bool) → Yield → Yield
+countedYield desk was y = yield (y .place) (y .answer) (y .rows) (recounted desk was (y .place .used) (y .marks))
+
 unfoldable pub yielding : (table : ℕ) → Place → (rows marks : List ℕ) → Name → Yield
 yielding table p rows marks who =
-    yieldOf (who .desk) rows marks
+    countedYield (who .desk) (p .used)
+    (yieldOf (who .desk) rows marks
     (yielded (stranger (desksOf marks) (who .desk) or lacksThree (desksOf marks) table (length rows) (length marks))
-    (own p (rowOf (who .desk) rows) (marksOf (who .desk) marks) [] []) (who .time))
+    (own p (rowOf (who .desk) rows) (marksOf (who .desk) marks) [] []) (who .time)))
 
 -- the place after a give-up
 abbrev pub placeAfter : GivenUp → Place → Place
 placeAfter G.Freed p = closed
 placeAfter (G.Refused r) p = p
+
+-- and whether it is open, where it was or was not
+abbrev pub stillOpen : GivenUp → (was : Bool) → Bool
+stillOpen G.Freed was = false
+stillOpen (G.Refused r) was = was

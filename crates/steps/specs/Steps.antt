@@ -1,7 +1,7 @@
 -- One law for each way that the steps return, in the code's own values. Assumes nothing.
 use Prim.Native.Nat.{ℕ, _+_, _-_, _*_}
 use native.Mathlib.Omega.{arith}
-use mathlib.Core.Path.{_≡_, refl, sym, ap, _∙_}
+use mathlib.Core.Path.{_≡_, refl, sym, ap, ap₂, _∙_}
 use mathlib.Core.Bool.{Bool, true, false}
 use mathlib.Core.List.{List, []}
 use lib.ListN.{length}
@@ -21,14 +21,15 @@ use Rattle.desk.specs.declared.GivenUp.{GivenUp}
 use Rattle.desk.specs.declared.GivenUp.the-variants as G
 use Rattle.desk.specs.Desk.{Own, After, Given, own, says, turn, left, freed, refuse, partTaken, givenUp}
 use Rattle.asks.specs.declared.Arrival.{Arrival}
-use Rattle.asks.specs.Settled.{openIn, laid, laidIn, passed}
-use Rattle.memory.specs.Relay.{desksOf, rowOf, marksOf, storeOf, stranger, lacksThree, yielded}
+use Rattle.asks.specs.Settled.{openIn, laidIn, passed}
+use Rattle.memory.specs.Relay.{desksOf, rowOf, marksOf, storeOf, storedShares, recounted, stranger, lacksThree, yielded}
+use Rattle.memory.specs.Counted.{recounted-same}
 use Rattle.gate.specs.declared.Gate.{Gate}
 use Rattle.gate.specs.declared.Gate.the-variants.{Through, Shut}
 use Rattle.gate.specs.Gate.{gateOf}
 use Rattle.steps.specs.Kept.{laid-same}
-use Rattle.steps.specs.Plan.{gated, Plan, plan, planOf, ownAt, settledPlan, partOfRest, partPlanned, laidPlan, passPlanned}
-use Rattle.steps.specs.Plan.{yield, yieldOf, yielding, placeAfter}
+use Rattle.steps.specs.Plan.{gated, Plan, plan, planOf, ownAt, settledPlan, partOfRest, partPlanned, laidPlan, countedPlan}
+use Rattle.steps.specs.Plan.{passPlanned, Yield, yield, yieldOf, countedYield, yielding, placeAfter, stillOpen}
 use Rattle.gate.specs.Tests.{either, other, shut, clear}
 
 -- a part s[a..a + k] of k elements
@@ -83,14 +84,16 @@ module _ (table : ℕ) (p : Place) (rows marks stores out : List ℕ) (who : Nam
       ap (planOf (who .desk) rows marks stores) (no _ _ (c .0) (no _ _ (c .1) refl))
 
 -- ---- a part
-module _ (table : ℕ) (h : Shares) (before : Place) (rows marks stores out : List ℕ) (who : Name) (x : Arrival) (rest : List ℕ)
-    (g : Gate) where
-  -- of the part d that was cut
-  abbrev takesOf : (d : List ℕ) → Own → After
-  takesOf d s = partTaken h s (who .desk) (who .time) (x .used) (x .part) d
+module _ (table : ℕ) (before : Place) (rows marks stores out : List ℕ) (who : Name) (x : Arrival) (rest : List ℕ) (g : Gate) where
+  abbrev stored : Shares
+  stored = storedShares (desksOf marks) (who .desk) marks
+
+  -- of the part d that was cut, by the shares h that were heard
+  abbrev takesOf : Shares → (d : List ℕ) → Own → After
+  takesOf h d s = partTaken h s (who .desk) (who .time) (x .used) (x .part) d
 
   abbrev takes : Own → After
-  takes s = takesOf (partOfRest x rest) s
+  takes s = takesOf stored (partOfRest x rest) s
 
   -- a desk's own things as the code lends them, for p
   abbrev lentTo : Place → Own
@@ -114,43 +117,59 @@ module _ (table : ℕ) (h : Shares) (before : Place) (rows marks stores out : Li
   lent-is : (p : Place) → lentTo p ≡ ownAt (who .desk) p rows marks stores out
   lent-is p = rw (widths (rowAt (who .desk)) finishedMost, widths (markAt (who .desk)) marksEach)
 
+  -- over a place that is free or the sample's
+  abbrev laidOver : Plan
+  laidOver = laidPlan before (partPlanned table (openIn before) rows marks stores out who x rest)
+
   module _ (f : g ≡ gateOf (desksOf marks) table (length rows) (length marks) (length stores) (who .desk) (length out)) where
-    -- over a place that is free or the sample's: a shut gate leaves it
+    -- a shut gate leaves it, and the numbers
     pub step-shut : (why : Refusal) → g ≡ Shut why → (r : Answer) → r ≡ says 0 (who .time) (O.Refused why)
-        → plan before r rows marks stores out ≡ laidPlan before (partPlanned table h (openIn before) rows marks stores out who x rest)
+        → plan before r rows marks stores out ≡ countedPlan (who .desk) (before .used) laidOver
     unfolding partPlanned
     step-shut why k r e =
         rw e
+        (ap (λ (m : List ℕ). plan before (says 0 (who .time) (O.Refused why)) rows m stores out)
+        (sym (recounted-same (who .desk) (before .used) marks))
+        ∙ ap (countedPlan (who .desk) (before .used))
         (ap (λ (q : Place). plan q (says 0 (who .time) (O.Refused why)) rows marks stores out) (sym (laid-same before))
-        ∙ ap (laidPlan before) (plan-shut table (openIn before) rows marks stores out who takes g f why k))
+        ∙ ap (laidPlan before) (plan-shut table (openIn before) rows marks stores out who takes g f why k)))
 
-    pub step-through : g ≡ Through → (p : Place) (r : Answer) (row′ marks′ out′ d : List ℕ) → d ≡ partOfRest x rest
-        → left (turn p r) row′ marks′ (storeOf (who .desk) stores) out′ ≡ laidIn before (takesOf d (lentTo (openIn before)))
-        → backTo p r row′ marks′ out′ ≡ laidPlan before (partPlanned table h (openIn before) rows marks stores out who x rest)
+    pub step-through : g ≡ Through → (h : Shares) → h ≡ stored → (p : Place) (r : Answer) (row′ marks′ out′ d : List ℕ)
+        → d ≡ partOfRest x rest
+        → left (turn p r) row′ marks′ (storeOf (who .desk) stores) out′ ≡ laidIn before (takesOf h d (lentTo (openIn before)))
+        → (marks″ : List ℕ)
+        → marks″ ≡ recounted (who .desk) (before .used) (p .used) (deskBack (markAt (who .desk)) marksEach marks′ marks)
+        → plan p r (deskBack (rowAt (who .desk)) finishedMost row′ rows) marks″ stores out′
+        ≡ countedPlan (who .desk) (before .used) laidOver
     unfolding partPlanned
-    step-through k p r row′ marks′ out′ d cut e =
-        back-is p r row′ marks′ out′
-        ∙ ap (planOf (who .desk) rows marks stores) (e ∙ ap (λ (z : List ℕ). laidIn before (takesOf z (lentTo (openIn before)))) cut)
+    step-through k h heard p r row′ marks′ out′ d cut e marks″ counted =
+        ap (λ (m : List ℕ). plan p r (deskBack (rowAt (who .desk)) finishedMost row′ rows) m stores out′) counted
+        ∙ ap (countedPlan (who .desk) (before .used))
+        (back-is p r row′ marks′ out′
+        ∙ ap (planOf (who .desk) rows marks stores)
+        (e ∙ ap₂ (λ (y : Shares) (z : List ℕ). laidIn before (takesOf y z (lentTo (openIn before)))) heard cut)
         ∙ ap (λ (s : Own). laidPlan before (planOf (who .desk) rows marks stores (takes s))) (lent-is (openIn before))
-        ∙ ap (laidPlan before) (plan-through table (openIn before) rows marks stores out who takes g f k)
+        ∙ ap (laidPlan before) (plan-through table (openIn before) rows marks stores out who takes g f k))
 
     -- where no place is to be had
+    abbrev lostOver : Plan
+    lostOver = partPlanned table closed rows marks stores out who x rest
+
     pub lost-shut : (why : Refusal) → g ≡ Shut why → (r : Answer) → r ≡ says 0 (who .time) (O.Refused why)
-        → plan (partPlanned table h closed rows marks stores out who x rest .place) r rows marks stores out
-        ≡ partPlanned table h closed rows marks stores out who x rest
+        → plan (lostOver .place) r rows marks stores out ≡ lostOver
     unfolding partPlanned
     lost-shut why k r e =
         let q = plan-shut table closed rows marks stores out who takes g f why k in
         rw e (ap (λ (z : Plan). plan (z .place) (says 0 (who .time) (O.Refused why)) rows marks stores out) (sym q) ∙ q)
 
-    pub lost-through : g ≡ Through → (r : Answer) (row′ marks′ out′ d : List ℕ) → d ≡ partOfRest x rest
-        → left (turn (takesOf d (lentTo closed) .own .place) r) row′ marks′ (storeOf (who .desk) stores) out′ ≡ takesOf d (lentTo closed)
-        → backTo (partPlanned table h closed rows marks stores out who x rest .place) r row′ marks′ out′
-        ≡ partPlanned table h closed rows marks stores out who x rest
+    pub lost-through : g ≡ Through → (h : Shares) → h ≡ stored → (r : Answer) (row′ marks′ out′ d : List ℕ) → d ≡ partOfRest x rest
+        → left (turn (takesOf h d (lentTo closed) .own .place) r) row′ marks′ (storeOf (who .desk) stores) out′
+        ≡ takesOf h d (lentTo closed)
+        → backTo (lostOver .place) r row′ marks′ out′ ≡ lostOver
     unfolding partPlanned
-    lost-through k r row′ marks′ out′ d cut e =
+    lost-through k h heard r row′ marks′ out′ d cut e =
         let t = takes (lentTo closed) .own .place in
-        let e′ : left (turn t r) row′ marks′ (storeOf (who .desk) stores) out′ ≡ takes (lentTo closed) = rw cut at e in
+        let e′ : left (turn t r) row′ marks′ (storeOf (who .desk) stores) out′ ≡ takes (lentTo closed) = rw (heard, cut) at e in
         let q : planOf (who .desk) rows marks stores (takes (lentTo closed)) ≡ settledPlan table closed rows marks stores out who takes =
         ap (λ (s : Own). planOf (who .desk) rows marks stores (takes s)) (lent-is closed)
         ∙ plan-through table closed rows marks stores out who takes g f k in
@@ -193,6 +212,12 @@ given-place s time = go (s .place .used) refl
     go true e = rw e
     go false e = rw e
 
+-- and so is whether it is open
+still-open : (r : GivenUp) (p : Place) → stillOpen r (p .used) ≡ placeAfter r p .used
+unfolding bare
+still-open G.Freed p = refl
+still-open (G.Refused w) p = refl
+
 module _ (table : ℕ) (p : Place) (rows marks : List ℕ) (who : Name) where
   abbrev hers : Own
   hers = own p (rowOf (who .desk) rows) (marksOf (who .desk) marks) [] []
@@ -200,31 +225,42 @@ module _ (table : ℕ) (p : Place) (rows marks : List ℕ) (who : Name) where
   abbrev n : ℕ
   n = desksOf marks
 
-  held : yield p (G.Refused R.Desk) rows marks ≡ yieldOf (who .desk) rows marks (record { own = hers; answer = G.Refused R.Desk })
-  held = rw (splice-part (rowAt (who .desk)) finishedMost rows, splice-part (markAt (who .desk)) marksEach marks)
+  abbrev counts : Yield → Yield
+  counts = countedYield (who .desk) (p .used)
+
+  held : yield p (G.Refused R.Desk) rows marks ≡ counts (yieldOf (who .desk) rows marks (record { own = hers; answer = G.Refused R.Desk }))
+  held =
+      rw (
+        splice-part (rowAt (who .desk)) finishedMost rows,
+        splice-part (markAt (who .desk)) marksEach marks,
+        recounted-same (who .desk) (p .used) marks,
+      )
 
   module _ (b : Bool) (f : b ≡ stranger n (who .desk)) where
     pub yield-stranger : b ≡ true → yield p (G.Refused R.Desk) rows marks ≡ yielding table p rows marks who
     unfolding yielding yielded
-    yield-stranger h = held ∙ ap (yieldOf (who .desk) rows marks) (yes _ _ (either _ _ (sym f ∙ h)) refl)
+    yield-stranger h = held ∙ ap (λ (a : Given). counts (yieldOf (who .desk) rows marks a)) (yes _ _ (either _ _ (sym f ∙ h)) refl)
 
     module _ (known : b ≡ false) (d : Bool) (k : d ≡ lacksThree n table (length rows) (length marks)) where
       pub yield-lacking : d ≡ true → yield p (G.Refused R.Desk) rows marks ≡ yielding table p rows marks who
       unfolding yielding yielded
-      yield-lacking h = held ∙ ap (yieldOf (who .desk) rows marks) (yes _ _ (other _ _ _ (sym f ∙ known) (sym k ∙ h)) refl)
+      yield-lacking h =
+          held
+          ∙ ap (λ (a : Given). counts (yieldOf (who .desk) rows marks a)) (yes _ _ (other _ _ _ (sym f ∙ known) (sym k ∙ h)) refl)
 
       pub yield-through : d ≡ false → (q : Place) (r : GivenUp) (row′ marks′ : List ℕ)
           → freed q r row′ marks′ [] []
           ≡ givenUp (own p (deskPart (rowAt (who .desk)) finishedMost rows) (deskPart (markAt (who .desk)) marksEach marks) [] [])
           (who .time)
-          → yield (placeAfter r p) r (deskBack (rowAt (who .desk)) finishedMost row′ rows)
-          (deskBack (markAt (who .desk)) marksEach marks′ marks) ≡ yielding table p rows marks who
+          → (was still : Bool) → p .used ≡ was → still ≡ stillOpen r was → (marks″ : List ℕ)
+          → marks″ ≡ recounted (who .desk) was still (deskBack (markAt (who .desk)) marksEach marks′ marks)
+          → yield (placeAfter r p) r (deskBack (rowAt (who .desk)) finishedMost row′ rows) marks″ ≡ yielding table p rows marks who
       unfolding yielding yielded
-      yield-through enough q r row′ marks′ e =
+      yield-through enough q r row′ marks′ e was still o is marks″ counted =
           let e′ : freed q r row′ marks′ [] [] ≡ givenUp hers (who .time) =
           rw (widths (rowAt (who .desk)) finishedMost, widths (markAt (who .desk)) marksEach) at e in
           let same : placeAfter r p ≡ q =
           ap (λ (z : Given). placeAfter (z .answer) p) e′ ∙ sym (given-place hers (who .time))
           ∙ ap (λ (z : Given). z .own .place) (sym e′) in
-          rw (same, widths (rowAt (who .desk)) finishedMost, widths (markAt (who .desk)) marksEach)
-          (ap (yieldOf (who .desk) rows marks) (e′ ∙ no _ _ (other _ _ _ (sym f ∙ known) (sym k ∙ enough)) refl))
+          rw (counted, is, ← o, still-open r p, same, widths (rowAt (who .desk)) finishedMost, widths (markAt (who .desk)) marksEach)
+          (ap (λ (a : Given). counts (yieldOf (who .desk) rows marks a)) (e′ ∙ no _ _ (other _ _ _ (sym f ∙ known) (sym k ∙ enough)) refl))

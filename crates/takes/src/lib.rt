@@ -1,7 +1,7 @@
-// A call with a part: 1 and 2, then the desk's own things are lent to what takes it.
+// A call with a part: 1 and 2, then the desk's own things are lent to what takes it, by the shares that are stored; and its place is
+// counted.
 use asks::Arrival;
 use asks::Settled;
-use desk::Shares;
 use gate::Gate;
 use paper::Answer;
 use paper::Name;
@@ -19,12 +19,11 @@ ghost use Prim.Native.Nat.{ℕ, _<_};
 ghost use lib.ListN.{length};
 ghost use Rattle.sample.specs.Place.{closed};
 ghost use Rattle.asks.specs.Settled.{before, after, openIn};
-ghost use Rattle.steps.specs.Plan.{plan, partPlanned, laidPlan};
+ghost use Rattle.steps.specs.Plan.{plan, partPlanned, laidPlan, countedPlan};
 
 // Settles a call with a part over a place: its sample's, or the free one that it may open.
 pub fn step(
     table: usize,
-    h: Shares,
     q: Head,
     kinds: &mut [usize; PARTS_MOST],
     starts: &mut [usize; PARTS_MOST],
@@ -42,9 +41,9 @@ pub fn step(
     ensures { λ r. ⌜ ((stores : List ℕ) → length stores ≡ «store_len»
         → plan (after (r .head) kinds starts lens bytes) (r .answer)
         (now (rows .exit)) (now (marks .exit)) stores (now (out .exit))
-        ≡ laidPlan (before q kinds starts lens bytes)
-        (partPlanned table h (openIn (before q kinds starts lens bytes))
-        (now (rows .entry)) (now (marks .entry)) stores (now (out .entry)) who x (now (rest .entry)))) ⌝ }
+        ≡ countedPlan (who .desk) (q .used) (laidPlan (before q kinds starts lens bytes)
+        (partPlanned table (openIn (before q kinds starts lens bytes))
+        (now (rows .entry)) (now (marks .entry)) stores (now (out .entry)) who x (now (rest .entry))))) ⌝ }
 {
     let n = gate::desks_of(marks);
     let g = gate::gate_of(n, table, rows, marks, store_len, who.desk, out);
@@ -54,11 +53,12 @@ pub fn step(
             answer: asks::says(0, who.time, Outcome::Refused(why)),
         },
         Gate::Through => {
+            let h = tally::shares(marks, n, who.desk);
             let row = FINISHED_MOST * who.desk;
             let mark = HEAD_SIZE + MARKS_EACH * who.desk;
             let w = x.part;
             let d = octets::cut(rest, w.start, w.len);
-            settle::take_part(
+            let t = settle::take_part(
                 h,
                 who.desk,
                 q,
@@ -72,7 +72,10 @@ pub fn step(
                 x,
                 d,
                 out,
-            )
+            );
+            let u = t.head;
+            tally::count(marks, who.desk, q.used, u.used);
+            t
         }
     }
 }
@@ -80,7 +83,6 @@ pub fn step(
 // Settles a call with a part for which no place is to be had or none is needed.
 pub fn step_lost(
     table: usize,
-    h: Shares,
     rows: &mut [u32],
     marks: &mut [u32],
     store_len: usize,
@@ -90,9 +92,9 @@ pub fn step_lost(
     out: &mut [u8],
 ) -> Answer
     ensures { λ r. ⌜ ((stores : List ℕ) → length stores ≡ «store_len»
-        → plan (partPlanned table h closed (now (rows .entry)) (now (marks .entry)) stores (now (out .entry)) who x
+        → plan (partPlanned table closed (now (rows .entry)) (now (marks .entry)) stores (now (out .entry)) who x
         (now (rest .entry)) .place) r (now (rows .exit)) (now (marks .exit)) stores (now (out .exit))
-        ≡ partPlanned table h closed (now (rows .entry)) (now (marks .entry)) stores (now (out .entry)) who x
+        ≡ partPlanned table closed (now (rows .entry)) (now (marks .entry)) stores (now (out .entry)) who x
         (now (rest .entry))) ⌝ }
 {
     let n = gate::desks_of(marks);
@@ -100,6 +102,7 @@ pub fn step_lost(
     match g {
         Gate::Shut(why) => asks::says(0, who.time, Outcome::Refused(why)),
         Gate::Through => {
+            let h = tally::shares(marks, n, who.desk);
             let row = FINISHED_MOST * who.desk;
             let mark = HEAD_SIZE + MARKS_EACH * who.desk;
             let w = x.part;

@@ -1,5 +1,5 @@
--- The twelve cases of document 01, 'Worked by hand', and those of request 1 of document 02, as lists, and one statement over both: each
--- holds of the definitions that the promises of set-up, receive, give-up, lookup and the writer cite. Assumes nothing.
+-- The twelve cases of document 01, 'Worked by hand', and those of requests 1 and 2 of document 02, as lists, and one statement over them:
+-- each holds of the definitions that the promises of set-up, receive, give-up, lookup and the writer cite. Assumes nothing.
 use Prim.Native.Nat.{ℕ}
 use native.Mathlib.Omega.{arith}
 use mathlib.Core.Path.{_≡_, refl, sym, subst}
@@ -9,6 +9,8 @@ use lib.Count.{ones}
 use lib.ListN.{replicate}
 use lib.Seq.{sets}
 use Rattle.laws.specs.Rows.{_⇒_⁏_, _<?_, _=?_, or-none}
+use Rattle.laws.specs.Region.{part}
+use Rattle.paper.specs.Limits.{headSize}
 use Rattle.paper.specs.declared.Refusal.the-variants as R
 use Rattle.paper.specs.declared.Outcome.{Outcome}
 use Rattle.paper.specs.declared.Outcome.the-variants as O
@@ -28,10 +30,11 @@ use Rattle.writer.specs.Cut.{cuts, cutsWithin, modified, pieces}
 use Rattle.writer.specs.Write.{Caption, caption, long, count, partUnit, payloadData, payloadUnit, unsized, illFormed, unwritable, uncut}
 use Rattle.writer.specs.Write.{after, written}
 use Rattle.memory.specs.declared.Started.the-variants.{Ready}
-use Rattle.memory.specs.Relay.{Tables, standsAt, improper, stranger, short, ownMarks, setUp, ordered, receivedAmong, yielded, givenUpAmong}
+use Rattle.memory.specs.Relay.{Tables, standsAt, stepped, commonStepped, improper, stranger, short, ownMarks, setUp, ordered, receivedAmong}
+use Rattle.memory.specs.Relay.{yielded, givenUpAmong}
 use Rattle.good.specs.Good.{ready-exactly}
 use Rattle.good.specs.Fresh.{Exact, exactTables, set-up-exact}
-use Rattle.peace.specs.Run.{Call, receive, give-up, Got, answered, released, run}
+use Rattle.peace.specs.Run.{Call, receive, give-up, Got, answered, released, next, run}
 use Rattle.worked.specs.Descriptions.{blankOutput, describes, describes-gets, Case9, describing, then-74, then-75}
 
 -- ---- what a case says
@@ -45,6 +48,8 @@ lentOutput = replicate 20 0xEE
 pub data Case : Type 0 where
   -- of so many fresh desks, that these calls get this, one after the other
   plays : (desks : ℕ) → (calls : List Call) → (gets : List Got) → Case
+  -- of two fresh desks, that this is stored in the head of the marks, at first and after each of these calls
+  stores : (calls : List Call) → (heads : List (List ℕ)) → Case
   -- of so many letters, the limit M and payload number k, that the writer answers this, and leaves this in the output
   writes : (many M k : ℕ) → Written → (out : List ℕ) → Case
 
@@ -52,9 +57,15 @@ pub data Case : Type 0 where
 abbrev pub gotten : List (ℕ × Got) → List Got
 gotten gs = map (λ (g : ℕ × Got). g .1) gs
 
+-- the head of the marks, at first and after each call
+abbrev pub headsOf : Tables → List Call → List (List ℕ)
+headsOf s [] = part 0 headSize (s .marks) ∷ []
+headsOf s (c ∷ cs) = part 0 headSize (s .marks) ∷ headsOf (next s c) cs
+
 abbrev pub Holds : Case → Type 0
 Holds (plays desks calls gets) =
     (s : Tables) → setUp desks s .answer ≡ Ready → Exact desks s → gotten (run (setUp desks s .tables) calls) ≡ gets
+Holds (stores calls heads) = (s : Tables) → setUp 2 s .answer ≡ Ready → Exact 2 s → headsOf (setUp 2 s .tables) calls ≡ heads
 Holds (writes many M k w out) = written (letters many) M k lentOutput ≡ after w out
 
 abbrev pub All : List Case → Type 0
@@ -194,7 +205,27 @@ abbrev case-17-modifiers : Case
 case-17-modifiers =
     plays 1 (at 0 5 (0x03 ∷ 0x00 ∷ 0x07 ∷ 0x22 ∷ 0x00 ∷ 0x00 ∷ 0x64 ∷ 0xFF ∷ []) ∷ []) (hears 8 105 (O.Kept 1) ∷ [])
 
--- ---- the cases of document 01, and those of request 1
+-- ---- request 2 of document 02
+-- two desks, the common use, and the open samples of either
+abbrev two : (common first second : ℕ) → List ℕ
+two common first second = 2 ∷ common ∷ first ∷ second ∷ replicate 6 0
+
+-- the third takes a common place; one is joined, and another opened; one is spoiled (refusal 10: three bytes of fourteen), and of the two
+-- that are left one is given up
+abbrev case-stored : Case
+case-stored =
+    stores
+    (opens 0 (1 ∷ 2 ∷ 3 ∷ []) ++ (at 0 1 part2 ∷ at 0 4 part1
+    ∷ at 0 3 (0x03 ∷ 0x00 ∷ 0x07 ∷ 0x22 ∷ 0x00 ∷ 0x00 ∷ 0x64 ∷ 0xFF ∷ []) ∷ give-up 0 2 ∷ []))
+    (two 0 0 0 ∷ two 0 1 0 ∷ two 0 2 0 ∷ two 1 3 0 ∷ two 0 2 0 ∷ two 1 3 0 ∷ two 0 2 0 ∷ two 0 1 0 ∷ [])
+
+-- case 10, whose refusals 8 and 9 count for nothing
+abbrev case-stored-10 : Case
+case-stored-10 =
+    stores (opens 0 (1 ∷ 2 ∷ 3 ∷ 4 ∷ 5 ∷ 6 ∷ 7 ∷ []) ++ opens 1 (1 ∷ 2 ∷ 3 ∷ []))
+    (two 0 0 0 ∷ two 0 1 0 ∷ two 0 2 0 ∷ two 1 3 0 ∷ two 2 4 0 ∷ two 3 5 0 ∷ two 4 6 0 ∷ two 4 6 0 ∷ two 4 6 1 ∷ two 4 6 2 ∷ two 4 6 2 ∷ [])
+
+-- ---- the cases of document 01, and those of requests 1 and 2
 abbrev pub cases-01 : List Case
 cases-01 =
     case-1 ∷ case-2 ∷ case-3 ∷ case-4 ∷ case-5 ∷ case-6 ∷ case-7-8 ∷ case-8-7
@@ -207,12 +238,16 @@ cases-01 =
 abbrev pub cases-17 : List Case
 cases-17 = case-17-long ∷ case-17-halves ∷ case-17-late ∷ case-17-other ∷ case-17-modifiers ∷ []
 
+abbrev pub cases-stored : List Case
+cases-stored = case-stored ∷ case-stored-10 ∷ []
+
 -- ---- what the rules compute to in the memory that set-up makes
 abbrev gets : (desks : ℕ) → List Call → List Got
 gets desks calls = gotten (run (exactTables desks) calls)
 
 abbrev Computes : Case → Type 0
 Computes (plays desks calls x) = gets desks calls ≡ x
+Computes (stores calls heads) = headsOf (exactTables 2) calls ≡ heads
 Computes (writes many M k w out) = Holds (writes many M k w out)
 
 -- a case holds by computation, or by laws
@@ -222,6 +257,8 @@ so (plays desks calls x) (inl e) =
     λ s p q.
     subst (λ (t : Tables). gotten (run t calls) ≡ x)
     (sym (set-up-exact desks s (or-none _ _ (ready-exactly desks s .0 p) .0) q)) e
+so (stores calls heads) (inl e) =
+    λ s p q. subst (λ (t : Tables). headsOf t calls ≡ heads) (sym (set-up-exact 2 s (or-none _ _ (ready-exactly 2 s .0 p) .0) q)) e
 so (writes many M k w out) (inl e) = e
 
 -- cases 1 and 5, which no relay plays that refuses everything or has a constant answer
@@ -246,13 +283,13 @@ all-so : (cs : List Case) → AllHold cs → All cs
 all-so [] e = tt
 all-so (c ∷ cs) e = (so c (e .0), all-so cs (e .1))
 
-each-holds : AllHold cases-01 × AllHold cases-17
-unfolding _⇒_⁏_ _<?_ _=?_ readOf broken judged textJudged illText fieldsOf least badPart badWhole bare outside has agrees stands repeats
-    oversize toldOf telling laid kept missing piecesIn piecesOf among laterPart sampleOf conflicts six usedUp wholeTaken completed
-    joining received standsAt improper stranger short ownMarks ordered receivedAmong ones markedRow markedUsed J.laters J.going
-    J.ordered J.sound flatten partHead written count uncut unwritable illFormed unsized wellFormed wellWithin long partUnit
-    payloadData payloadUnit pieces modified cuts cutsWithin reach reachWithin character chart within follows charted unitAt paired
-    givenUp yielded givenUpAmong
+each-holds : AllHold cases-01 × (AllHold cases-17 × AllHold cases-stored)
+unfolding _⇒_⁏_ _<?_ _=?_ readOf broken judged textJudged illText fieldsOf least badPart badWhole bare outside has agrees stands
+    repeats oversize toldOf telling laid kept missing piecesIn piecesOf among laterPart sampleOf conflicts six usedUp wholeTaken
+    completed joining received standsAt stepped commonStepped improper stranger short ownMarks ordered receivedAmong ones markedRow
+    markedUsed J.laters J.going J.ordered J.sound flatten partHead written count uncut unwritable illFormed unsized wellFormed
+    wellWithin long partUnit payloadData payloadUnit pieces modified cuts cutsWithin reach reachWithin character chart within follows
+    charted unitAt paired givenUp yielded givenUpAmong
 each-holds = (
   (
     inl (one-and-five .0),
@@ -285,8 +322,11 @@ each-holds = (
       ),
     ),
   ),
-  (inl refl, (inl refl, (inl refl, (inl refl, (inl refl, tt))))),
+  (
+    (inl refl, (inl refl, (inl refl, (inl refl, (inl refl, tt))))),
+    (inl refl, (inl refl, tt)),
+  ),
 )
 
-pub worked : All cases-01 × All cases-17
-worked = (all-so cases-01 (each-holds .0), all-so cases-17 (each-holds .1))
+pub worked : All cases-01 × (All cases-17 × All cases-stored)
+worked = (all-so cases-01 (each-holds .0), (all-so cases-17 (each-holds .1 .0), all-so cases-stored (each-holds .1 .1)))

@@ -13,7 +13,7 @@ use unit::Reading;
 ghost use mathlib.Core.Path.{_≡_};
 ghost use Rattle.laws.specs.Rows.{_<?_};
 ghost use Rattle.sample.specs.declared.Place.{Place};
-ghost use Rattle.steps.specs.Plan.{plan, passPlanned, yield, yielding, placeAfter};
+ghost use Rattle.steps.specs.Plan.{plan, passPlanned, yield, yielding, placeAfter, stillOpen};
 
 // Settles a call with a unit that is no part: of the places it hears only whether the sample of the name is open.
 pub fn pass_step(
@@ -54,7 +54,17 @@ pub fn pass_step(
     }
 }
 
-// Settles a give-up.
+// Whether the place of a give-up is open after it.
+fn still_open(g: GivenUp, was: bool) -> bool
+    ensures { λ r. ⌜ r ≡ stillOpen g was ⌝ }
+{
+    match g {
+        GivenUp::Freed => false,
+        GivenUp::Refused(_) => was,
+    }
+}
+
+// Settles a give-up, and counts its place.
 pub fn yield_step(
     table: usize,
     at: usize,
@@ -76,10 +86,12 @@ pub fn yield_step(
     }
     let row = FINISHED_MOST * who.desk;
     let mark = HEAD_SIZE + MARKS_EACH * who.desk;
-    ends::give_up(
+    let g = ends::give_up(
         at < m,
         &mut rows[row..row + FINISHED_MOST],
         &mut marks[mark..mark + MARKS_EACH],
         who.time,
-    )
+    );
+    tally::count(marks, who.desk, at < m, still_open(g, at < m));
+    g
 }

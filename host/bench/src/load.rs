@@ -1,6 +1,7 @@
 //! What is played: the units of one round, the same for everyone.
 
 use spindlefig::{Caption, Writer};
+use std::iter::repeat_n;
 
 /// One unit, sent by a desk so much later than the round began.
 pub struct Call {
@@ -66,13 +67,15 @@ fn opening() -> Vec<u8> {
     vec![2, 0, 10, 0x21, 0, 0, 1, 128, 0, 4, b'?']
 }
 
-/// Opens samples of all desks, until only one place is left, which desk 0 may take.
-fn filling(desks: usize) -> Vec<Call> {
-    let own = |desk: usize| if desk == 0 { 1 } else { 2 };
-    let first = (0..desks).flat_map(|desk| vec![desk; own(desk)]);
-    let common = (0..desks).rev().flat_map(|desk| vec![desk; 4]);
-    first
-        .chain(common.take(2 * desks))
+/// Opens samples of desk 0, as many as are said, and then of the others, until only one place is left,
+/// which desk 0 may take.
+fn filling(desks: usize, open: usize) -> Vec<Call> {
+    let own = (1..desks).flat_map(|desk| [desk; 2]);
+    let common = (1..desks).rev().flat_map(|desk| [desk; 4]);
+    repeat_n(0, open)
+        .chain(own)
+        .chain(common)
+        .take(4 * desks - 1)
         .enumerate()
         .map(|(i, desk)| Call {
             desk,
@@ -83,8 +86,11 @@ fn filling(desks: usize) -> Vec<Call> {
 }
 
 fn load(name: String, desks: usize, full: bool, round: Vec<Call>, span: u32) -> Load {
-    let before = if full { filling(desks) } else { Vec::new() };
-    let table = if full { "full" } else { "empty" };
+    let (before, table) = match (full, desks) {
+        (false, _) => (Vec::new(), "empty"),
+        (true, 1) => (filling(1, 3), "full"),
+        (true, _) => (filling(desks, 1), "full"),
+    };
     Load {
         name: format!("{name:<23} {desks} {table:<5}"),
         desks,
@@ -135,6 +141,49 @@ fn parts(text: &str, count: usize, backwards: bool, desks: usize, full: bool) ->
         .collect();
     let name = format!("{count} parts {way}{}", mark(text));
     load(name, desks, full, round, 1)
+}
+
+/// Short samples in two parts, of desk 0 while it has so many others open: every second unit opens one.
+fn short_parts(open: usize, desks: usize) -> Load {
+    let round = payloads(ASCII, 8, 14)
+        .into_iter()
+        .map(|unit| Call {
+            desk: 0,
+            after: 0,
+            unit,
+        })
+        .collect();
+    let name = format!("short parts at {open} open");
+    let mut load = load(name, desks, open > 0, round, 1);
+    if open > 0 {
+        load.before = filling(desks, open);
+    }
+    load
+}
+
+/// A part that is refused by this number, 6 to 9, and changes nothing, again and again.
+fn refused(number: usize, desks: usize) -> Load {
+    let name = format!("part refused {number}");
+    let mut load = load(name, desks, true, Vec::new(), 0);
+    let last = load.before.last().expect("a full table");
+    let time = last.after + 1;
+    let (first, desk, after) = match number {
+        6 => (payloads(ASCII, 1, 14).pop(), 0, time),
+        // Other bytes for the sample that lies last in the table.
+        7 => (None, last.desk, last.after),
+        8 => (None, desks - 1, time),
+        // Desk 0 takes the last place.
+        _ => (Some(opening()), 0, time + 1),
+    };
+    load.before.extend(first.map(|unit| Call {
+        desk: 0,
+        after: time,
+        unit,
+    }));
+    let mut unit = opening();
+    unit[10] = b'!';
+    load.round.push(Call { desk, after, unit });
+    load
 }
 
 /// A small generator of numbers (xorshift).
@@ -207,12 +256,16 @@ pub fn loads() -> Vec<Load> {
         all.push(whole(text, 200, 1, false));
         all.push(parts(text, 2, false, 1, false));
     }
+    all.extend([(0, 1), (3, 1), (1, 8), (3, 8)].map(|(open, desks)| short_parts(open, desks)));
+    all.extend([6, 7, 9].map(|number| refused(number, 1)));
+    all.extend([6, 7, 8, 9].map(|number| refused(number, 8)));
     all
 }
 
 #[cfg(test)]
 mod tests {
     use super::*;
+    use second::{Outcome, Second};
 
     #[test]
     fn units_are_as_the_names_say() {
@@ -224,12 +277,69 @@ mod tests {
                     let unit = load.bytes() / load.round.len();
                     assert_eq!(unit, number(len) + 9, "{}", load.name);
                 }
+                ["short", "parts", ..] => assert_eq!(load.bytes(), 2 * 14, "{}", load.name),
                 [count, "parts", ..] => {
                     assert_eq!(load.round.len(), number(count), "{}", load.name);
                     assert_eq!(load.bytes(), 900 + 10 * number(count), "{}", load.name);
                 }
+                ["part", "refused", ..] => assert_eq!(load.bytes(), 11, "{}", load.name),
                 _ => assert_eq!(load.round.len(), MIX, "{}", load.name),
             }
+        }
+    }
+
+    /// The relay that the load asks for before its rounds.
+    fn prepared(load: &Load) -> Second {
+        let mut relay = Second::set_up(load.desks).expect("1 to 8 desks");
+        for call in &load.before {
+            relay.receive(call.desk, call.after, &call.unit, &mut [0; 1024]);
+        }
+        relay
+    }
+
+    #[test]
+    fn tables_are_as_the_names_say() {
+        for load in loads() {
+            let open: usize = prepared(&load).counts().open.iter().sum();
+            let left = 4 * load.desks - open;
+            match load.name.split_whitespace().next_back() {
+                Some("full") => assert!(left <= 1, "{}", load.name),
+                _ => assert_eq!(open, 0, "{}", load.name),
+            }
+        }
+    }
+
+    /// What the second relay answers in five rounds.
+    fn answers(load: &Load) -> Vec<Outcome> {
+        let mut relay = prepared(load);
+        let mut answers = Vec::new();
+        for round in 0..5 {
+            for call in &load.round {
+                let time = round * load.span + call.after;
+                let answer = relay.receive(call.desk, time, &call.unit, &mut [0; 1024]);
+                answers.push(answer.outcome);
+            }
+        }
+        answers
+    }
+
+    #[test]
+    fn every_round_goes_as_the_name_says() {
+        for load in loads() {
+            let words: Vec<_> = load.name.split_whitespace().collect();
+            let went_so = match words[..] {
+                ["short", _, _, open, ..] => {
+                    let pair = |two: &[_]| matches!(two, [Outcome::Kept(1), Outcome::Joined(_)]);
+                    answers(&load).chunks(2).all(pair)
+                        && prepared(&load).counts().open[0].to_string() == open
+                }
+                [_, "refused", number, ..] => {
+                    let refused = Outcome::Refused(number.parse().expect("a number"));
+                    answers(&load).iter().all(|answer| *answer == refused)
+                }
+                _ => continue,
+            };
+            assert!(went_so, "{}", load.name);
         }
     }
 }

@@ -25,7 +25,9 @@ compare [--unproved] [SEED [COUNT [LOG]]]
 Plays random and damaged runs through the proved relay, the second one and the
 rival, and compares every answer and every output byte of COUNT calls. A string
 that is handed out has to be well-formed as well, as Rust's own decoders say. The
-rival takes no part in writing, style book checks and box walks.
+rival takes no part in writing, style book checks and box walks. After set-up and
+after each call on the relays the stored counts of open samples are held against
+what the second one counts in its maps.
 
   SEED   which runs to play (1)
   COUNT  how many calls to compare (2000000)

@@ -1,7 +1,7 @@
 //! The calls that the relays answer, in the types of the second one.
 
 use rival::Rival;
-use second::{Answer, Facts, Lent, Outcome, Second, Step};
+use second::{Answer, Counts, Facts, Lent, Outcome, Second, Step};
 use spindlefig::{Refusal, Relay, Writer};
 
 /// A sample as the writer takes it.
@@ -23,6 +23,9 @@ pub trait Opinion: Sized {
     fn receive(&mut self, desk: usize, time: u32, rest: &[u8], out: &mut [u8]) -> Answer;
     fn give_up(&mut self, desk: usize, time: u32) -> Result<(), u8>;
     fn look(&self, desk: usize, index: usize, book: &[u8]) -> Vec<u8>;
+
+    /// How many samples are open: counted, or as it is stored.
+    fn counts(&self) -> Counts;
 
     /// Calls with this memory lent; tells also whether the memory stayed as it was. `None` for a
     /// relay that is lent none.
@@ -54,6 +57,10 @@ impl Opinion for Second {
 
     fn look(&self, desk: usize, index: usize, book: &[u8]) -> Vec<u8> {
         Second::look(self, desk, index, book)
+    }
+
+    fn counts(&self) -> Counts {
+        Second::counts(self)
     }
 }
 
@@ -96,6 +103,11 @@ impl Opinion for Rival {
     fn look(&self, desk: usize, index: usize, book: &[u8]) -> Vec<u8> {
         Rival::look(self, desk, index, book).to_vec()
     }
+
+    fn counts(&self) -> Counts {
+        let (open, common) = Rival::counts(self);
+        Counts { open, common }
+    }
 }
 
 impl Opinion for Relay {
@@ -118,6 +130,11 @@ impl Opinion for Relay {
 
     fn look(&self, desk: usize, index: usize, book: &[u8]) -> Vec<u8> {
         self.lookup(desk, index, book)
+    }
+
+    fn counts(&self) -> Counts {
+        let spindlefig::Counts { open, common } = Relay::counts(self);
+        Counts { open, common }
     }
 
     fn lending<T>(&mut self, lent: Lent, call: impl FnOnce(&mut Self) -> T) -> Option<(T, bool)> {

@@ -149,14 +149,29 @@ impl<'a, A: Opinion + Tools, B: Opinion + Tools, C: Opinion> Player<'a, A, B, C>
             buffers: [[0; BUFFER]; 3],
             pattern: 0,
         };
-        Ok(Some(Player {
+        let mut player = Player {
             relay,
             second,
             rival,
             tally,
             most,
             outputs,
-        }))
+        };
+        player.hold_counts()?;
+        Ok(Some(player))
+    }
+
+    /// Holds the numbers that are stored against those that the second one counts. It is done after
+    /// set-up and after every call on the relays, whatever it answers.
+    fn hold_counts(&mut self) -> Result<(), String> {
+        agreed(
+            format_args!("counts"),
+            self.relay.counts(),
+            self.second.counts(),
+            self.rival.counts(),
+        )?;
+        self.tally.uncounted("counts", "held");
+        Ok(())
     }
 
     fn is_done(&self) -> bool {
@@ -221,6 +236,7 @@ impl<'a, A: Opinion + Tools, B: Opinion + Tools, C: Opinion> Player<'a, A, B, C>
             )?;
             self.outputs.same()?;
             self.outputs.well_formed(&answer.outcome)?;
+            self.hold_counts()?;
             self.tally.received(&answer.outcome);
             at += answer.used;
             time = answer.next;
@@ -237,6 +253,7 @@ impl<'a, A: Opinion + Tools, B: Opinion + Tools, C: Opinion> Player<'a, A, B, C>
             self.second.give_up(desk, time),
             self.rival.give_up(desk, time),
         )?;
+        self.hold_counts()?;
         match given_up {
             Ok(()) => self.tally.add("give-up", "given up"),
             Err(number) => self.tally.refused("give-up", number),
@@ -251,6 +268,7 @@ impl<'a, A: Opinion + Tools, B: Opinion + Tools, C: Opinion> Player<'a, A, B, C>
             self.second.look(desk, index, book),
             self.rival.look(desk, index, book),
         )?;
+        self.hold_counts()?;
         let outcome = if shown.is_empty() { "empty" } else { "shown" };
         self.tally.add("look", outcome);
         Ok(())
@@ -272,6 +290,7 @@ impl<'a, A: Opinion + Tools, B: Opinion + Tools, C: Opinion> Player<'a, A, B, C>
         refused?;
         self.outputs.same()?;
         same(format_args!("memory that stays"), &stayed, "second", &true)?;
+        self.hold_counts()?;
         match call {
             Call::Look { .. } => self.tally.add("lent", "empty"),
             _ => self.tally.refused("lent", 1),

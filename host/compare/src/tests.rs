@@ -5,7 +5,7 @@ use crate::comparison::{compare, Found};
 use crate::log;
 use crate::opinion::{Caption, Opinion, Tools, Written};
 use crate::tally::Tally;
-use second::{Answer, Lent, Outcome, Second, Step};
+use second::{Answer, Counts, Lent, Outcome, Second, Step, MOST_DESKS};
 use std::collections::HashMap;
 
 const SET_UP: u8 = 0;
@@ -33,7 +33,16 @@ const STYLES_READ: u8 = 21;
 const BEFORE_FIELDS: u8 = 22;
 const JOINED_ONLY: u8 = 23;
 const SHORT_STRING: u8 = 24;
-const NONE: u8 = 25;
+const FRESH_COUNT: u8 = 25;
+const REFUSED_COUNTS: u8 = 26;
+const JOINED_COUNTS: u8 = 27;
+const SPOILED_COUNTS: u8 = 28;
+const GIVEN_UP_COUNTS: u8 = 29;
+const ONE_PART_COUNTS: u8 = 30;
+const SECOND_IS_COMMON: u8 = 31;
+const COMMON_STAYS: u8 = 32;
+const NEXT_DESK: u8 = 33;
+const NONE: u8 = 34;
 
 /// The second relay with one mistake.
 struct Wrong<const MISTAKE: u8> {
@@ -41,6 +50,10 @@ struct Wrong<const MISTAKE: u8> {
     arrived: HashMap<(usize, u32), Vec<u8>>,
     /// Whether it is lent memory that is no relay's, and refuses all by 1.
     lent_other: bool,
+    /// How many samples of each desk are counted that are not open.
+    miscounted: [usize; MOST_DESKS],
+    /// The highest common use so far.
+    most_common: usize,
 }
 
 impl<const MISTAKE: u8> Wrong<MISTAKE> {
@@ -129,6 +142,21 @@ impl<const MISTAKE: u8> Wrong<MISTAKE> {
             outcome: Outcome::Refused(17),
         })
     }
+
+    /// Counts after a unit, where this mistake counts a sample that is not open.
+    fn count(&mut self, desk: usize, unit: &[u8], outcome: &Outcome) {
+        let counts = match (MISTAKE, outcome) {
+            (REFUSED_COUNTS, Outcome::Refused(8 | 9)) => true,
+            (JOINED_COUNTS, Outcome::Joined(_)) => unit[3] >> 4 > 1,
+            (SPOILED_COUNTS, Outcome::Refused(10)) => unit[3] >> 4 > 1,
+            (ONE_PART_COUNTS, Outcome::Joined(_)) => unit[3] >> 4 == 1,
+            _ => false,
+        };
+        if counts {
+            self.miscounted[desk] += 1;
+        }
+        self.most_common = self.most_common.max(self.second.counts().common);
+    }
 }
 
 /// The string of a TYPE 1 or 2 unit, as far as it is there; nothing of any other.
@@ -160,6 +188,8 @@ impl<const MISTAKE: u8> Opinion for Wrong<MISTAKE> {
             second,
             arrived: HashMap::new(),
             lent_other: false,
+            miscounted: [usize::from(MISTAKE == FRESH_COUNT); MOST_DESKS],
+            most_common: 0,
         })
     }
 
@@ -187,6 +217,7 @@ impl<const MISTAKE: u8> Opinion for Wrong<MISTAKE> {
         if let (SHORT_STRING, Outcome::Joined(facts)) = (MISTAKE, &mut answer.outcome) {
             facts.string -= 1;
         }
+        self.count(desk, rest, &answer.outcome);
         answer
     }
 
@@ -195,6 +226,9 @@ impl<const MISTAKE: u8> Opinion for Wrong<MISTAKE> {
         let answer = self.second.give_up(desk, time);
         if MISTAKE == GIVE_UP && answer == Err(11) {
             return Ok(());
+        }
+        if MISTAKE == GIVEN_UP_COUNTS && answer == Ok(()) {
+            self.miscounted[desk] += 1;
         }
         answer
     }
@@ -206,6 +240,21 @@ impl<const MISTAKE: u8> Opinion for Wrong<MISTAKE> {
             shown.truncate(255);
         }
         shown
+    }
+
+    fn counts(&self) -> Counts {
+        let mut open = self.second.counts().open;
+        for (open, more) in open.iter_mut().zip(self.miscounted) {
+            *open += more;
+        }
+        let own = if MISTAKE == SECOND_IS_COMMON { 1 } else { 2 };
+        let mut common = open.iter().map(|open| open.saturating_sub(own)).sum();
+        match MISTAKE {
+            NEXT_DESK => open.rotate_right(1),
+            COMMON_STAYS => common = self.most_common,
+            _ => {}
+        }
+        Counts { open, common }
     }
 
     fn lending<T>(&mut self, _: Lent, call: impl FnOnce(&mut Self) -> T) -> Option<(T, bool)> {
@@ -374,6 +423,61 @@ fn an_ill_formed_string_is_found_where_all_hand_it_out() {
     for what in mistakes {
         assert!(what.starts_with("well-formed string of "), "{what}");
     }
+}
+
+/// Finds the mistake by what is counted, also in the third place; its log's last call is `last`.
+fn assert_miscounted<const MISTAKE: u8>(last: &str) {
+    assert_found::<MISTAKE>(last);
+    let told = [
+        (found::<MISTAKE>().difference.what, ", second says "),
+        (rivals::<MISTAKE>(), ", rival says "),
+    ];
+    for (what, other) in told {
+        assert!(what.starts_with("counts: the relay says "), "{what}");
+        assert!(what.contains(other), "{what}");
+    }
+}
+
+#[test]
+fn mistakes_in_what_is_counted_are_found_and_logged() {
+    assert_miscounted::<FRESH_COUNT>("set-up");
+    assert_miscounted::<REFUSED_COUNTS>("receive");
+    assert_miscounted::<JOINED_COUNTS>("receive");
+    assert_miscounted::<SPOILED_COUNTS>("receive");
+    assert_miscounted::<GIVEN_UP_COUNTS>("give-up");
+    assert_miscounted::<ONE_PART_COUNTS>("receive");
+    assert_miscounted::<SECOND_IS_COMMON>("receive");
+    assert_miscounted::<COMMON_STAYS>("receive");
+    assert_miscounted::<NEXT_DESK>("receive");
+}
+
+/// The sum of the numbers in the lines of a tally that begin so.
+fn summed(tally: &Tally, begin: &[&str]) -> u64 {
+    let tally = tally.to_string();
+    let lines = tally.lines();
+    let lines = lines.filter(|line| begin.iter().any(|begin| line.starts_with(begin)));
+    let number = |line: &str| line.split(' ').next_back()?.parse::<u64>().ok();
+    lines.filter_map(number).sum()
+}
+
+#[test]
+fn counts_are_held_after_set_up_and_after_every_call_on_the_relays() {
+    let mut tally = Tally::default();
+    let compared = compare::<Wrong<NONE>, Second, Second>(3, 20_000, &mut tally);
+    assert!(compared.is_ok());
+    let calls = [
+        "set-up    done",
+        "receive ",
+        "give-up ",
+        "look ",
+        "lent      refused",
+        "lent      empty",
+    ];
+    for call in calls {
+        assert_ne!(summed(&tally, &[call]), 0, "{call}");
+    }
+    let held = summed(&tally, &["counts    held"]);
+    assert_eq!(held, summed(&tally, &calls));
 }
 
 #[test]

@@ -11,6 +11,7 @@ pub fn line(event: &Event) -> String {
         Event::Heard { heard, .. } => unit(heard),
         Event::GivenUp { result: Ok(()), .. } => "given up".to_string(),
         Event::Shown { description, .. } => format!("shown {}", hex::show(description)),
+        Event::Counted { open, common } => format!("open {} common {common}", list(open)),
         Event::Written(Ok(Payload { bytes, count })) => {
             format!("written {} of {count} {}", bytes.len(), hex::show(bytes))
         }
@@ -30,6 +31,12 @@ pub fn line(event: &Event) -> String {
         | Event::Written(Err(refusal))
         | Event::Walked(Step::Refused(refusal)) => refused(*refusal),
     }
+}
+
+/// Numbers with spaces between them.
+pub fn list(numbers: &[usize]) -> String {
+    let numbers: Vec<String> = numbers.iter().map(usize::to_string).collect();
+    numbers.join(" ")
 }
 
 fn refused(refusal: Refusal) -> String {

@@ -22,6 +22,7 @@ pub enum Call {
         index: usize,
         book: Vec<u8>,
     },
+    Counts,
     Write {
         text: Text,
         m: usize,
@@ -61,12 +62,13 @@ pub enum Line<'a> {
     Call(Call),
 }
 
-/// Each command with the names of its words.
-const COMMANDS: [(&str, &str); 8] = [
+/// Each command with the names of its words, which may be none.
+const COMMANDS: [(&str, &str); 9] = [
     ("set-up", "N"),
     ("receive", "DESK TIME HEX"),
     ("give-up", "DESK TIME"),
     ("look", "DESK INDEX BOOKHEX"),
+    ("counts", ""),
     ("write", "U SIDX SDUR STRINGHEX MODHEX M K"),
     ("describe", "SIDX HEX M K"),
     ("book", "HEX"),
@@ -87,12 +89,22 @@ pub fn line(text: &str) -> Result<Line<'_>, String> {
     let Some((_, names)) = COMMANDS.iter().find(|(name, _)| *name == command) else {
         return Err(format!("{} is no command", command.escape_debug()));
     };
-    let words: Vec<&str> = words.collect();
-    let names: Vec<&str> = names.split(' ').collect();
-    if words.len() != names.len() {
-        return Err(format!("{command} takes {}", names.join(" ")));
+    let words = Words {
+        names: names.split_ascii_whitespace().collect(),
+        words: words.collect(),
+    };
+    if words.words.len() != words.names.len() {
+        return Err(takes(command, names));
     }
-    call(command, &Words { names, words }).map(Line::Call)
+    call(command, &words).map(Line::Call)
+}
+
+/// What is said where other words follow a command.
+fn takes(command: &str, names: &str) -> String {
+    match names {
+        "" => format!("{command} stands alone"),
+        _ => format!("{command} takes {names}"),
+    }
 }
 
 /// The words behind a command, with their names.
@@ -143,6 +155,7 @@ fn call(command: &str, w: &Words) -> Result<Call, String> {
             index: w.size(1)?,
             book: w.bytes(2)?,
         },
+        "counts" => Call::Counts,
         "write" => Call::Write {
             text: text(w)?,
             m: w.size(5)?,
@@ -205,15 +218,16 @@ mod tests {
     #[test]
     fn each_command_takes_its_own_words() {
         for (command, names) in COMMANDS {
-            let words: Vec<&str> = names.split(' ').map(|_| "10").collect();
+            let words: Vec<&str> = names.split_ascii_whitespace().map(|_| "10").collect();
             let text = format!("{command} {}", words.join(" "));
             assert!(matches!(line(&text), Ok(Line::Call(_))), "{text}");
-            assert_eq!(
-                wrong(&format!("{text} 10")),
-                format!("{command} takes {names}")
-            );
-            assert_eq!(wrong(command), format!("{command} takes {names}"));
+            assert_eq!(wrong(&format!("{text} 10")), takes(command, names));
+            if !words.is_empty() {
+                assert_eq!(wrong(command), format!("{command} takes {names}"));
+            }
         }
+        assert_eq!(line("counts"), Ok(Line::Call(Call::Counts)));
+        assert_eq!(wrong("counts 0"), "counts stands alone");
     }
 
     #[test]

@@ -1,7 +1,8 @@
 //! A call played on the relay.
 
 use spindlefig::{
-    check_book, step, BadRecord, Caption, Heard, Refusal, Relay, Step, Writer, Written, OUTPUT,
+    check_book, step, BadRecord, Caption, Counts, Heard, Refusal, Relay, Step, Writer, Written,
+    OUTPUT,
 };
 
 use crate::parse::{Call, Text};
@@ -23,6 +24,11 @@ pub enum Event<'a> {
         desk: usize,
         index: usize,
         description: Vec<u8>,
+    },
+    /// How many samples each desk has open, and the common use.
+    Counted {
+        open: Vec<usize>,
+        common: usize,
     },
     Written(Result<Payload, Refusal>),
     Checked(Result<usize, BadRecord>),
@@ -63,6 +69,7 @@ impl Player {
                 index: *index,
                 description: self.relay()?.lookup(*desk, *index, book),
             },
+            Call::Counts => counted(self.relay()?),
             Call::Write { text, m, k } => Event::Written(lend(*m, |out| {
                 Writer::new(*m).write(&caption(text), *k, out)
             })),
@@ -107,6 +114,14 @@ fn receive<'a>(relay: &mut Relay, desk: usize, time: u32, payload: &'a [u8]) -> 
         heard,
     };
     heard.into_iter().map(event).collect()
+}
+
+fn counted(relay: &Relay) -> Event<'static> {
+    let Counts { open, common } = relay.counts();
+    Event::Counted {
+        open: open[..relay.desks()].to_vec(),
+        common,
+    }
 }
 
 fn caption(text: &Text) -> Caption<'_> {

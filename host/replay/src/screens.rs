@@ -2,6 +2,7 @@
 
 use spindlefig::{boxes, Facts, Heard, Outcome, Refusal, Step};
 
+use crate::numbers;
 use crate::play::{Event, Payload};
 
 pub fn line(event: &Event) -> String {
@@ -20,6 +21,10 @@ pub fn line(event: &Event) -> String {
             index,
             description,
         } => format!("{:10}  desk {desk} | {}", "", shown(*index, description)),
+        Event::Counted { open, common } => aside(&format!(
+            "captions waiting for parts, desk by desk: {}; in common places: {common}",
+            numbers::list(open)
+        )),
         Event::Written(Ok(Payload { bytes, count })) => aside(&format!(
             "a payload of {} bytes, one of {count}",
             bytes.len()

@@ -1,5 +1,5 @@
-//! A caption relay made for speed alone: the rules of document 01 with request 1 of document 02, and
-//! no proof, to see what the proof costs.
+//! A caption relay made for speed alone: the rules of document 01 with requests 1 and 2 of document
+//! 02, and no proof, to see what the proof costs.
 //!
 //! Places, times and descriptions stand in flat tables, what can be counted is kept as a count, a
 //! part that completes its sample goes straight to the output, and no call allocates. An answer is
@@ -157,6 +157,16 @@ impl Rival {
             128..=254 => book::find(book, index as u8),
             _ => &[],
         }
+    }
+
+    /// The counts that are kept: each desk's open samples, 0 for desks that are not there, and the
+    /// common use.
+    pub fn counts(&self) -> ([usize; 8], usize) {
+        let mut open = [0; 8];
+        for (open, desk) in open.iter_mut().zip(&self.desks) {
+            *open = desk.count();
+        }
+        (open, self.common)
     }
 
     fn take_whole(&mut self, desk: usize, time: u32, unit: &[u8], out: &mut Output) -> Answer {

@@ -115,9 +115,12 @@ fn case_10_the_shares() {
         assert_eq!(open(1, time), Outcome::Kept(1));
     }
     assert_eq!(open(1, 2), Outcome::Refused(9));
+    assert_eq!(relay.counts(), ([6, 2, 0, 0, 0, 0, 0, 0], 4));
     assert_eq!(relay.give_up(0, 3), Ok(()));
     assert_eq!(relay.give_up(0, 3), Err(11));
+    assert_eq!(relay.counts(), ([5, 2, 0, 0, 0, 0, 0, 0], 3));
     assert_eq!(receive(&mut relay, 1, 2, PART_7).outcome, Outcome::Kept(1));
+    assert_eq!(relay.counts(), ([5, 3, 0, 0, 0, 0, 0, 0], 4));
 }
 
 /// The unit is 17: its bytes are used, and time and output stay.

@@ -1,5 +1,11 @@
 //! The memory that a caller lends to a call, as far as refusal 1 asks for it.
 
+use crate::MOST_DESKS;
+
+/// The numbers in front of the desks' marks: how many desks there are, the common use, and each of
+/// eight desks' open samples.
+const HEAD: usize = 1 + 1 + MOST_DESKS;
+
 /// How much is lent, in elements, and the number that stands at the front of the marks, where set-up
 /// keeps how many desks there are.
 #[derive(Debug, Clone, Copy, PartialEq, Eq)]
@@ -18,7 +24,7 @@ impl Lent {
             head: n as u32,
             places: 4 * n,
             rows: 16 * n,
-            marks: 3 + 2 * n,
+            marks: HEAD + 2 * n,
             stores: 64 * 260 * n,
         }
     }
@@ -26,7 +32,7 @@ impl Lent {
     /// How many desks this memory is for, or refusal 1 where it is for none.
     pub fn desks(&self) -> Result<usize, u8> {
         let n = self.head as usize;
-        if self.marks == 0 || !(1..=8).contains(&n) {
+        if self.marks == 0 || !(1..=MOST_DESKS).contains(&n) {
             return Err(1);
         }
         let needed = Lent::needed(n);

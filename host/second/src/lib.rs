@@ -1,5 +1,5 @@
 //! A second caption relay in plain Rust, written from the rules alone: document
-//! 01 with request 1 of document 02.
+//! 01 with requests 1 and 2 of document 02.
 //!
 //! It keeps what it holds in maps and vectors and borrows no memory from its
 //! caller. Refusals are the numbers of the rules, 1 to 17.
@@ -27,6 +27,9 @@ pub const LONGEST_SAMPLE: usize = 1024;
 
 /// The longest description.
 pub const LONGEST_DESCRIPTION: usize = 256;
+
+/// The most desks of a relay.
+pub const MOST_DESKS: usize = 8;
 
 /// The open samples every desk may have whatever the others do.
 const OWN: usize = 2;
@@ -75,10 +78,19 @@ pub struct Facts {
     pub sample: usize,
 }
 
+/// How many samples are open.
+#[derive(Debug, Clone, Copy, PartialEq, Eq)]
+pub struct Counts {
+    /// Each desk's; 0 for desks that are not there.
+    pub open: [usize; MOST_DESKS],
+    /// The common use: the sum, over all desks, of those beyond two.
+    pub common: usize,
+}
+
 impl Second {
     /// A fresh relay of `n` desks.
     pub fn set_up(n: usize) -> Result<Second, u8> {
-        if !(1..=8).contains(&n) {
+        if !(1..=MOST_DESKS).contains(&n) {
             return Err(1);
         }
         let desks = vec![Desk::default(); n];
@@ -136,6 +148,16 @@ impl Second {
         found.unwrap_or_default().to_vec()
     }
 
+    /// Counts the open samples in the desks' maps.
+    pub fn counts(&self) -> Counts {
+        let mut open = [0; MOST_DESKS];
+        for (open, desk) in open.iter_mut().zip(&self.desks) {
+            *open = desk.open.len();
+        }
+        let common = self.common();
+        Counts { open, common }
+    }
+
     fn take(
         &mut self,
         desk: usize,
@@ -181,11 +203,14 @@ impl Second {
         if open >= MOST_OPEN {
             return Err(8);
         }
-        let beyond = |desk: &Desk| desk.open.len().saturating_sub(OWN);
-        let common: usize = self.desks.iter().map(beyond).sum();
-        if common >= 2 * self.desks.len() {
+        if self.common() >= 2 * self.desks.len() {
             return Err(9);
         }
         Ok(())
+    }
+
+    fn common(&self) -> usize {
+        let beyond = |desk: &Desk| desk.open.len().saturating_sub(OWN);
+        self.desks.iter().map(beyond).sum()
     }
 }

@@ -149,6 +149,7 @@ fn case_12_at_most_15_parts() {
 fn memory_is_for_the_desks_that_its_head_names_or_for_none() {
     for n in 1..=8 {
         let all = Lent::needed(n);
+        assert_eq!(all.marks, 10 + 2 * n);
         assert_eq!(all.desks(), Ok(n));
         let marks = all.marks - 1;
         assert_eq!(Lent { marks, ..all }.desks(), Err(1));

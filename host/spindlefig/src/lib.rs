@@ -3,8 +3,8 @@
 //! whole captions out; and it writes such payloads.
 //!
 //! Every call goes to a library that is proved to answer as the rule book says: document 01, with
-//! request 1 of document 02. Nothing has to be checked beforehand: what is wrong is refused by its
-//! number, a [`Refusal`].
+//! requests 1 and 2 of document 02. Nothing has to be checked beforehand: what is wrong is refused by
+//! its number, a [`Refusal`].
 //!
 //! ```
 //! use spindlefig::{Caption, Relay, Writer};
@@ -38,7 +38,7 @@ pub use answer::{Answer, Facts, Outcome};
 pub use book::{check_book, BadRecord};
 pub use boxes::{boxes, step, Boxes, ModifierBox, Step};
 pub use refusal::Refusal;
-pub use relay::{Heard, Lent, Relay, Units, DESCRIPTION, OUTPUT};
+pub use relay::{Counts, Heard, Lent, Relay, Units, DESCRIPTION, DESKS, OUTPUT};
 pub use writer::{Caption, Writer, Written, LIMIT};
 
 /// The length of the character of UTF-8 (u is 0) or UTF-16 (u is 1) at a place, and 0 where none is

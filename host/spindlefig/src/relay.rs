@@ -9,6 +9,9 @@ pub const OUTPUT: usize = 1024;
 /// The most bytes of a description.
 pub const DESCRIPTION: usize = 256;
 
+/// The most desks of a relay.
+pub const DESKS: usize = 8;
+
 /// A relay for up to eight desks, with the memory that it works in.
 ///
 /// A caption in two parts, the string and then a blinking (document 01, cases 7 and 8):
@@ -53,6 +56,15 @@ pub struct Lent {
     pub stores: usize,
 }
 
+/// How many samples are open; see [`Relay::counts`].
+#[derive(Debug, Clone, Copy, PartialEq, Eq)]
+pub struct Counts {
+    /// Each desk's; 0 for a desk that is not there.
+    pub open: [usize; DESKS],
+    /// The common use: the sum, over all desks, of those beyond two.
+    pub common: usize,
+}
+
 impl fmt::Debug for Relay {
     fn fmt(&self, f: &mut fmt::Formatter) -> fmt::Result {
         f.debug_struct("Relay")
@@ -81,6 +93,31 @@ impl Relay {
     /// How many desks there are; they are counted from 0.
     pub fn desks(&self) -> usize {
         self.tables.desks()
+    }
+
+    /// How many samples are open, as the relay stores it: each desk's, and in all the common use.
+    /// Nothing is counted for it.
+    ///
+    /// A desk's third open sample takes a common place, and leaves it when it ends:
+    ///
+    /// ```
+    /// use spindlefig::{Relay, OUTPUT};
+    ///
+    /// let part = b"\x02\x00\x0b\x21\x00\x00\x64\x80\x00\x0eHi";
+    /// let mut relay = Relay::set_up(2)?;
+    /// for time in [1000, 2000, 3000] {
+    ///     relay.receive(1, time, part, &mut [0; OUTPUT]);
+    /// }
+    /// let counts = relay.counts();
+    /// assert_eq!((counts.open[0], counts.open[1], counts.common), (0, 3, 1));
+    ///
+    /// relay.give_up(1, 1000)?;
+    /// let counts = relay.counts();
+    /// assert_eq!((counts.open[0], counts.open[1], counts.common), (0, 2, 0));
+    /// # Ok::<(), spindlefig::Refusal>(())
+    /// ```
+    pub fn counts(&self) -> Counts {
+        self.tables.counts()
     }
 
     /// Takes the unit at the front of the rest of a payload, and allocates nothing.

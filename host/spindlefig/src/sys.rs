@@ -1,7 +1,8 @@
 //! The calls of the proved library as C sees them, and the memory that is lent to them. All
 //! `unsafe` of the crate stands here.
 
-use crate::{Caption, Lent};
+use crate::{Caption, Counts, Lent};
+use std::array;
 
 /// How many numbers an answer fills.
 pub(crate) const ROW: usize = 9;
@@ -10,6 +11,12 @@ pub(crate) type Row = [u64; ROW];
 
 /// The bytes that a place is aligned to.
 const WORD: usize = 8;
+
+/// What stands at the front of the marks: how many desks there are, the common use, and from there on
+/// each of eight desks' open samples.
+const MARKS_DESKS: usize = 0;
+const MARKS_COMMON: usize = 1;
+const MARKS_OPEN: usize = 2;
 
 extern "C" {
     fn spindlefig_place_size() -> usize;
@@ -107,7 +114,7 @@ extern "C" {
 }
 
 /// The memory of a relay, lent to every call. The places are words: only the library reads them.
-/// The number of desks stands at the front of the marks, where set-up puts it.
+/// The number of desks and the counts stand at the front of the marks, where set-up puts them.
 #[derive(Clone, PartialEq, Eq)]
 pub(crate) struct Tables {
     places: Vec<u64>,
@@ -164,41 +171,53 @@ impl Tables {
     /// Fresh tables for n desks, or the refusal's number.
     pub(crate) fn set_up(n: usize) -> Result<Tables, usize> {
         let mut t = Tables::zeros(n);
-        // SAFETY: no pointer goes with more than its own vector's length, and the zeros of a place are one.
-        let refusal = unsafe {
-            spindlefig_set_up(
-                n,
-                t.places.as_mut_ptr(),
-                t.lent.places,
-                t.rows.as_mut_ptr(),
-                t.lent.rows,
-                t.marks.as_mut_ptr(),
-                t.lent.marks,
-                t.stores.as_mut_ptr(),
-                t.lent.stores,
-            )
-        };
-        match refusal {
+        match t.make_fresh(n) {
             0 => Ok(t),
-            _ => Err(refusal),
+            refusal => Err(refusal),
         }
     }
 
-    /// The number at the front of the marks.
+    /// Sets up what is lent, and answers the refusal's number or 0.
+    fn make_fresh(&mut self, n: usize) -> usize {
+        // SAFETY: no pointer goes with more than its own vector's length, and the zeros of a place are one.
+        unsafe {
+            spindlefig_set_up(
+                n,
+                self.places.as_mut_ptr(),
+                self.lent.places,
+                self.rows.as_mut_ptr(),
+                self.lent.rows,
+                self.marks.as_mut_ptr(),
+                self.lent.marks,
+                self.stores.as_mut_ptr(),
+                self.lent.stores,
+            )
+        }
+    }
+
+    /// The number of desks that stands in the marks.
     pub(crate) fn desks(&self) -> usize {
-        self.marks[0] as usize
+        self.marks[MARKS_DESKS] as usize
+    }
+
+    /// The counts that stand in the marks, lent or not.
+    pub(crate) fn counts(&self) -> Counts {
+        Counts {
+            open: array::from_fn(|desk| self.marks[MARKS_OPEN + desk] as usize),
+            common: self.marks[MARKS_COMMON] as usize,
+        }
     }
 
     /// From now on lends what is said, or all there is where that is less; answers what was lent.
     pub(crate) fn lend(&mut self, lent: Lent) -> Lent {
         let before = Lent {
-            head: self.marks[0],
+            head: self.marks[MARKS_DESKS],
             places: self.lent.places,
             rows: self.lent.rows,
             marks: self.lent.marks,
             stores: self.lent.stores,
         };
-        self.marks[0] = lent.head;
+        self.marks[MARKS_DESKS] = lent.head;
         self.lent = Lengths {
             places: lent.places.min(self.places.len() / place_words()),
             rows: lent.rows.min(self.rows.len()),
@@ -367,19 +386,48 @@ mod tests {
         assert_eq!((t.lent.places, t.places.len() * WORD), (32, 32 * 1472));
         assert_eq!(
             (t.rows.len(), t.marks.len(), t.stores.len()),
-            (128, 3 + 16, 133120)
+            (128, 10 + 16, 133120)
         );
         assert!(Tables::zeros(9).places.is_empty());
     }
 
     #[test]
-    fn set_up_puts_the_number_of_desks_in_front() {
+    fn set_up_puts_the_number_of_desks_and_zeros_in_front() {
         for n in 1..=8 {
-            let Ok(t) = Tables::set_up(n) else {
-                panic!("{n} desks are refused");
-            };
-            assert_eq!(t.marks[..3], [n as u32, 0, 0]);
+            let mut t = Tables::zeros(n);
+            t.marks.fill(7);
+            assert_eq!(t.make_fresh(n), 0);
+            assert_eq!(t.marks[..10], [n as u32, 0, 0, 0, 0, 0, 0, 0, 0, 0]);
             assert_eq!(t.desks(), n);
         }
+    }
+
+    #[test]
+    fn counts_are_read_from_the_marks() {
+        let mut t = Tables::zeros(8);
+        t.marks[..10].copy_from_slice(&[8, 20, 30, 31, 32, 33, 34, 35, 36, 37]);
+        let open = [30, 31, 32, 33, 34, 35, 36, 37];
+        assert_eq!(t.counts(), Counts { open, common: 20 });
+    }
+
+    /// Numbers that no call left there: none falls below 0, and none rises over what a mark holds.
+    #[test]
+    fn wrong_counts_stay_within_a_mark() {
+        let mut t = Tables::zeros(2);
+        assert_eq!(t.make_fresh(2), 0);
+        let opening = [2, 0, 10, 0x21, 0, 0, 100, 128, 0, 2, b'a'];
+        for time in 1..=3 {
+            t.marks[MARKS_COMMON] = u32::MAX;
+            t.receive(0, time, &opening, &mut [0; crate::OUTPUT]);
+        }
+        let counts = |first, common| Counts {
+            open: [first, 0, 0, 0, 0, 0, 0, 0],
+            common,
+        };
+        assert_eq!(t.counts(), counts(3, u32::MAX as usize));
+        t.marks[MARKS_COMMON] = 0;
+        assert_eq!((t.give_up(0, 3), t.counts()), (0, counts(2, 0)));
+        t.marks[MARKS_OPEN] = 0;
+        assert_eq!((t.give_up(0, 2), t.counts()), (0, counts(0, 0)));
     }
 }

@@ -1,6 +1,8 @@
 //! What only a caller in Rust can ask of the relay.
 
-use spindlefig::{Caption, Lent, Outcome, Refusal, Relay, Writer, DESCRIPTION, OUTPUT};
+use spindlefig::{
+    Caption, Counts, Lent, Outcome, Refusal, Relay, Writer, DESCRIPTION, DESKS, OUTPUT,
+};
 
 const HI: &[u8] = b"\x01\x00\x0a\x80\x01\x5f\x90\x00\x02Hi";
 
@@ -56,7 +58,7 @@ const TWO: Lent = Lent {
     head: 2,
     places: 8,
     rows: 32,
-    marks: 7,
+    marks: 14,
     stores: 33280,
 };
 
@@ -104,6 +106,69 @@ fn memory_too_short_for_the_head_is_refused() {
         relay.receive(0, 5, HI, &mut [0; OUTPUT])
     });
     assert_eq!(answer.outcome, Outcome::Refused(Refusal::Desk));
+}
+
+/// The first part of two, the other one, and one of TYPE 4 in its place, which spoils the sample.
+const FIRST: &[u8] = b"\x02\x00\x0a\x21\x00\x00\x01\x80\x00\x02A";
+const LAST: &[u8] = b"\x02\x00\x0a\x22\x00\x00\x01\x80\x00\x02B";
+const SPOILING: &[u8] = b"\x04\x00\x07\x22\x00\x00\x01B";
+
+/// Samples of one part: a good one and a spoiled one.
+const ALONE: &[u8] = b"\x02\x00\x0a\x11\x00\x00\x01\x80\x00\x01A";
+const SPOILED: &[u8] = b"\x03\x00\x07\x11\x00\x00\x01A";
+
+/// What is stored after a unit of a desk: the open samples of desks 0 and 1, and the common use.
+fn stored_after(relay: &mut Relay, desk: usize, time: u32, unit: &[u8]) -> [usize; 3] {
+    relay.receive(desk, time, unit, &mut [0; OUTPUT]);
+    stored(relay)
+}
+
+fn stored(relay: &Relay) -> [usize; 3] {
+    let Counts { open, common } = relay.counts();
+    let [first, second, absent @ ..] = open;
+    assert_eq!(absent, [0; DESKS - 2]);
+    [first, second, common]
+}
+
+#[test]
+fn the_stored_counts_rise_with_what_is_opened_and_fall_with_what_ends() {
+    let mut relay = Relay::set_up(2).unwrap();
+    assert_eq!(stored(&relay), [0, 0, 0]);
+    let opened: Vec<_> = (0..6)
+        .map(|time| stored_after(&mut relay, 0, time, FIRST))
+        .collect();
+    let common = [0, 0, 1, 2, 3, 4];
+    assert!(opened.into_iter().eq((0..6).map(|i| [i + 1, 0, common[i]])));
+    assert_eq!(stored_after(&mut relay, 1, 0, FIRST), [6, 1, 4]);
+    assert_eq!(stored_after(&mut relay, 0, 3, LAST), [5, 1, 3]);
+    assert_eq!(stored_after(&mut relay, 0, 1, SPOILING), [4, 1, 2]);
+    assert_eq!(relay.give_up(0, 5), Ok(()));
+    assert_eq!(stored(&relay), [3, 1, 1]);
+    assert_eq!(relay.give_up(1, 0), Ok(()));
+    assert_eq!(stored(&relay), [3, 0, 1]);
+}
+
+#[test]
+fn the_stored_counts_stay_where_nothing_is_open_longer_than_the_call() {
+    let mut relay = Relay::set_up(2).unwrap();
+    for (desk, open) in [(0, 6), (1, 2)] {
+        for time in 0..open {
+            stored_after(&mut relay, desk, time, FIRST);
+        }
+    }
+    let stays = [6, 2, 4];
+    assert_eq!(stored(&relay), stays);
+    assert_eq!(stored_after(&mut relay, 0, 6, FIRST), stays);
+    assert_eq!(stored_after(&mut relay, 1, 6, FIRST), stays);
+    assert_eq!(stored_after(&mut relay, 2, 6, FIRST), stays);
+    assert_eq!(stored_after(&mut relay, 0, 5, ALONE), stays);
+    assert_eq!(relay.give_up(1, 6), Err(Refusal::NotOpen));
+    assert_eq!(stored(&relay), stays);
+    assert_eq!(relay.give_up(1, 1), Ok(()));
+    let stays = [6, 1, 4];
+    assert_eq!(stored_after(&mut relay, 1, 7, ALONE), stays);
+    assert_eq!(stored_after(&mut relay, 1, 8, SPOILED), stays);
+    assert_eq!(stored_after(&mut relay, 1, 9, HI), stays);
 }
 
 #[test]

@@ -2,7 +2,6 @@
 -- copy, with its token, which comes back. Assumes nothing.
 use mathlib.Core.Path.{_≡_, refl}
 use Prim.Native.Nat.{ℕ, _<_, _^_, min}
-use mathlib.Core.Bool.{true}
 use mathlib.Core.List.{List, [], _∷_}
 use lib.Dec.{ltb}
 use lib.ListN.{length, take}
@@ -19,7 +18,7 @@ use contract.Monad.{Fun}
 use contract.Running.{givenOf, tables, tablesOf}
 use types.Kit.{Given, Item, ‵, raw, _⊛_, ⋆, _$_, _∵_, !, qed, by, move, drop, use1, split, join, group, fsplit, fjoin, suffices, frame, done}
 use types.Part.{whole, sub, look-in}
-use types.Run.{look, init, forget, stop, fld, from, load, true-lit, of-opd, bin, and-then, no-more, assigns, land, returns, enter, alloc1, alloc0, params1, pass1, pass0}
+use types.Run.{look, init, forget, stop, fld, from, load, of-opd, bin, and-then, no-more, assigns, land, returns, enter, alloc1, alloc0, params1, pass1, pass0}
 use sound.WpLaws.{FmC, fmOf, WpFn-mono}
 use denote.RattleType.{owns}
 use denote.Laws.{Is}
@@ -47,7 +46,7 @@ use Rattle.paper.proofs.Name.Laws as Q′
 use Rattle.sample.specs.declared.Place.{Place}
 use Rattle.sample.proofs.Place as P
 use Rattle.memory.specs.Table.{isAt}
-use Rattle.table.specs.Table.{counts}
+use Rattle.table.specs.Table.{bears}
 use Rattle.table.proofs.Least.{KnowsLeast, knows-least, calls-least}
 use Rattle.counts.proofs.Asked.{KnowsNear, knows-near, calls-near}
 use Rattle.counts.proofs.Facts.{spared}
@@ -103,7 +102,7 @@ module _ {M : Type 1} (𝓤 : URA M) (H : Heap 𝓤) (A : Atoms 𝓤) (W : Given
   n = min (length ys) m
 
   abbrev c : ℕ
-  c = count (counts true who) (take n ys)
+  c = count (bears who) (take n ys)
 
   abbrev k : ℕ
   k = c =? 0 ⇒ 0 ⁏ n
@@ -126,11 +125,11 @@ module _ {M : Type 1} (𝓤 : URA M) (H : Heap 𝓤) (A : Atoms 𝓤) (W : Given
       frame ! $ nothing ! $ nothing ! $ fjoin ! $ nothing ! $ fjoin ! $ nothing ! $ fjoin ! $ frame ! $ owned ! bool (Is bool) (bool-makes 𝓤 H A W) (ltb at k) _ refl $ done !
 
   abbrev to-count : Count 𝓤 H A mem run .Ghost
-  to-count = (((κ, tt), (q, tt), tt, (x, (n, (who, (true, tt)))), (v ∷ [], (vint w64 n ∷ [], (w ∷ [], (vbool true ∷ [], tt))))), tt)
+  to-count = (((κ, tt), (q, tt), tt, (x, (n, (who, tt))), (v ∷ [], (vint w64 n ∷ [], (w ∷ [], tt)))), tt)
 
   asked-count : n < 2 ^ 64 → Is Q.the-row who (w ∷ []) → ent 𝓤 (⋆ 𝓤 H A (Token ∷ ‵ Own ∷ [])) (Count 𝓤 H A mem run .pre to-count)
   asked-count gn fits =
-      qed W (Token ∷ ‵ Own ∷ []) ∵ nothing ! $ owned ! bool (Is bool) (bool-makes 𝓤 H A W) true _ refl $ fjoin ! $ owned ! Q.the-row (Is Q.the-row) (LL.makes Q.the-type Q′.the-plain 𝓤 H A) who _ fits $ fjoin ! $
+      qed W (Token ∷ ‵ Own ∷ []) ∵ nothing ! $ owned ! Q.the-row (Is Q.the-row) (LL.makes Q.the-type Q′.the-plain 𝓤 H A) who _ fits $ fjoin ! $
       owned ! usize (Is usize) (uint-makes 𝓤 H A W w64) n _ (refl, gn) $ fjoin ! $ move ! (2 ∷ 0 ∷ []) $ fjoin ! $ move ! (1 ∷ 0 ∷ []) $ join ! $ frame ! $ done !
 
   abbrev to-find : Find 𝓤 H A mem run .Ghost
@@ -158,7 +157,7 @@ module _ {M : Type 1} (𝓤 : URA M) (H : Heap 𝓤) (A : Atoms 𝓤) (W : Given
         -- `count`
         use1 W (‵ Own ⊛ ‵ Own) (shr-slice-copy 𝓤 H A W (named 0) κ P.the-row .twice x (v ∷ [])) $ split ! $ move ! (2 ∷ 0 ∷ []) $ group ! 2 $ use1 W (raw (Count 𝓤 H A mem run .pre to-count)) (asked-count (is-n .1) fits) $
         calls-said ! fm count′.ended (count′.clauses 𝓤 H A mem run) known-count to-count (λ r. r ≡ c) (λ r e. id⊢ 𝓤 _)
-        (and-then ! (load ! (from ! (stop !)) (look ! 4 refl)) (and-then ! (load ! (from ! (stop !)) (look ! 10 refl)) (and-then ! (load ! (from ! (stop !)) (look ! 8 refl)) (and-then ! (true-lit !) (no-more !))))) (λ u r e.
+        (and-then ! (load ! (from ! (stop !)) (look ! 4 refl)) (and-then ! (load ! (from ! (stop !)) (look ! 10 refl)) (and-then ! (load ! (from ! (stop !)) (look ! 8 refl)) (no-more !)))) (λ u r e.
         landed ! usize (vint w64) (uint-tells w64) c r e u (λ is-c. use1 W Token (id⊢ 𝓤 _) $ move ! (1 ∷ 0 ∷ []) $
         land ! (from ! (stop !)) (init ! 12 refl (uint-lawful 𝓤 H A W w64 .typed c _ is-c .0)) $
         calls-near ! mem run fm known-near c n (is-c .1) (is-n .1) (and-then ! (load ! (from ! (stop !)) (look ! 13 refl)) (and-then ! (load ! (from ! (stop !)) (look ! 11 refl)) (no-more !))) (λ is-k.

@@ -37,7 +37,6 @@ use Rattle.paper.specs.declared.Name.{Name}
 use Rattle.sample.specs.declared.Place.{Place}
 use Rattle.sample.specs.Place.{closed}
 use Rattle.sample.proofs.Place as P
-use Rattle.desk.specs.declared.Shares as D
 use Rattle.asks.specs.declared.Arrival.{Arrival}
 use Rattle.memory.specs.Relay.{tables as lent-tables, done as done-of}
 use Rattle.steps.specs.Plan.{plan, partPlanned}
@@ -55,14 +54,14 @@ use Rattle.relay.proofs.join_at as me
 use Rattle.relay.proofs.join_at.Statement as stated
 use Rattle.relay.proofs.join_at.Code as code
 use Rattle.relay.proofs.join_at.Code.Mir as pieces
-use Rattle.relay.proofs.Values.{name, answer, share, arrival}
+use Rattle.relay.proofs.Values.{name, answer, arrival}
 
 module _ {M : Type 1} (𝓤 : URA M) (H : Heap 𝓤) (A : Atoms 𝓤) (mem : Memory → SProp 𝓤) (run : Routine → Fun 𝓤) where
   abbrev Mine : Lending 𝓤
   Mine = record {
     lifetimes = 5;
     bounds = [];
-    params = keeps 0 tt P.the-row ∷ value (number w64) ∷ value (number w64) ∷ value share ∷ gives 1 tt u32 ∷ gives 2 tt u32 ∷ value
+    params = keeps 0 tt P.the-row ∷ value (number w64) ∷ value (number w64) ∷ gives 1 tt u32 ∷ gives 2 tt u32 ∷ value
         (number w64)
         ∷ value name ∷ value arrival ∷ shares 3 tt u8 ∷ gives 4 tt u8 ∷ [];
     result = answer;
@@ -73,7 +72,7 @@ module _ {M : Type 1} (𝓤 : URA M) (H : Heap 𝓤) (A : Atoms 𝓤) (mem : Mem
   JoinIn = record {
     lifetimes = 5;
     bounds = [];
-    params = gives 0 tt P.the-row ∷ value (number w64) ∷ value (number w64) ∷ value share ∷ gives 1 tt u32 ∷ gives 2 tt u32 ∷ value
+    params = gives 0 tt P.the-row ∷ value (number w64) ∷ value (number w64) ∷ gives 1 tt u32 ∷ gives 2 tt u32 ∷ value
         (number w64)
         ∷ value name ∷ value arrival ∷ shares 3 tt u8 ∷ gives 4 tt u8 ∷ [];
     result = answer;
@@ -84,7 +83,7 @@ module _ {M : Type 1} (𝓤 : URA M) (H : Heap 𝓤) (A : Atoms 𝓤) (mem : Mem
   StepLost = record {
     lifetimes = 4;
     bounds = [];
-    params = value (number w64) ∷ value share ∷ gives 0 tt u32 ∷ gives 1 tt u32 ∷ value (number w64) ∷ value name ∷ value arrival ∷ shares 2
+    params = value (number w64) ∷ gives 0 tt u32 ∷ gives 1 tt u32 ∷ value (number w64) ∷ value name ∷ value arrival ∷ shares 2
         tt u8
         ∷ gives 3 tt u8 ∷ [];
     result = answer;
@@ -94,7 +93,7 @@ module _ {M : Type 1} (𝓤 : URA M) (H : Heap 𝓤) (A : Atoms 𝓤) (mem : Mem
 -- what is asked
 abbrev Need : (κs : Lfts 5) → Args me.signature κs → Type 0
 Need κs a = (a .1 .1 .0 ≡ length (now (a .0))) × (a .1 .0 < a .1 .1 .0 → getD (now (a .0)) (a .1 .0) closed .used ≡ false
-    → 1 < a .1 .1 .1 .1 .1 .1 .1 .1 .0 .part .total)
+    → 1 < a .1 .1 .1 .1 .1 .1 .1 .0 .part .total)
 
 module _ {M : Type 1} (𝓤 : URA M) (H : Heap 𝓤) (A : Atoms 𝓤) (mem : Memory → SProp 𝓤) (run : Routine → Fun 𝓤) (W : Given 𝓤 H A)
     (𝓣 : Tables 𝓤 H)
@@ -111,29 +110,26 @@ module _ {M : Type 1} (𝓤 : URA M) (H : Heap 𝓤) (A : Atoms 𝓤) (mem : Mem
     abbrev len : ℕ
     len = a .1 .1 .0
 
-    abbrev h : D.Shares
-    h = a .1 .1 .1 .0
-
     abbrev rows : List ℕ
-    rows = now (a .1 .1 .1 .1 .0)
+    rows = now (a .1 .1 .1 .0)
 
     abbrev marks : List ℕ
-    marks = now (a .1 .1 .1 .1 .1 .0)
+    marks = now (a .1 .1 .1 .1 .0)
 
     abbrev held : ℕ
-    held = a .1 .1 .1 .1 .1 .1 .0
+    held = a .1 .1 .1 .1 .1 .0
 
     abbrev who : Name
-    who = a .1 .1 .1 .1 .1 .1 .1 .0
+    who = a .1 .1 .1 .1 .1 .1 .0
 
     abbrev x : Arrival
-    x = a .1 .1 .1 .1 .1 .1 .1 .1 .0
+    x = a .1 .1 .1 .1 .1 .1 .1 .0
 
     abbrev rest : List ℕ
-    rest = now (a .1 .1 .1 .1 .1 .1 .1 .1 .1 .0)
+    rest = now (a .1 .1 .1 .1 .1 .1 .1 .1 .0)
 
     abbrev out : List ℕ
-    out = now (a .1 .1 .1 .1 .1 .1 .1 .1 .1 .1 .0)
+    out = now (a .1 .1 .1 .1 .1 .1 .1 .1 .1 .0)
 
     abbrev vs : Vals me.signature κs
     vs = valued-of 𝓤 H A (Mine 𝓤 H A mem run) κs a
@@ -145,19 +141,19 @@ module _ {M : Type 1} (𝓤 : URA M) (H : Heap 𝓤) (A : Atoms 𝓤) (mem : Mem
     abbrev Lost : Answer → (rows′ marks′ out′ : List ℕ) → Type 0
     Lost r rows′ marks′ out′ =
         (stores : List ℕ) → length stores ≡ held
-        → plan (partPlanned len h closed rows marks stores out who x rest .place) r rows′ marks′ stores out′ ≡ partPlanned len h closed rows
+        → plan (partPlanned len closed rows marks stores out who x rest .place) r rows′ marks′ stores out′ ≡ partPlanned len closed rows
         marks stores out who x rest
 
     abbrev Left-is : Answer → (places′ : List Place) (rows′ marks′ out′ : List ℕ) → Type 0
     Left-is r places′ rows′ marks′ out′ =
         (stores : List ℕ) → length stores ≡ held
         → done-of (lent-tables places′ rows′ marks′ stores) out′ r
-        ≡ joinedAt i h (lent-tables (now places) rows marks stores) who x rest out
+        ≡ joinedAt i (lent-tables (now places) rows marks stores) who x rest out
 
     lost-at : T (not (ltb i len)) → (r : Answer) (rows′ marks′ out′ : List ℕ) → Lost r rows′ marks′ out′
         → Left-is r (now places) rows′ marks′ out′
     lost-at over r rows′ marks′ out′ e stores k =
-        lost-done i len h (lent-tables (now places) rows marks stores) who x rest out (need .0) (nltb→le i len over) r rows′ marks′ out′
+        lost-done i len (lent-tables (now places) rows marks stores) who x rest out (need .0) (nltb→le i len over) r rows′ marks′ out′
         (e stores k)
 
     walk : Begins 𝓤 H A (Mine 𝓤 H A mem run) W 𝓣 code.function κs qs tt a tt b
@@ -166,9 +162,9 @@ module _ {M : Type 1} (𝓤 : URA M) (H : Heap 𝓤) (A : Atoms 𝓤) (mem : Mem
         sets ! (bin ! (reads ! 0 refl refl) (reads ! 0 refl refl) tt) tt (tt, tt) $ first ! $ branches ! (reads ! 0 refl refl)
         -- place i
         (λ less.
-        reborrows ! (are .0 .0 .1 .0) refl tt $ reborrows ! (are .1 .1 .1 .1 .0 .0 .1 .0) refl tt $ reborrows !
-        (are .1 .1 .1 .1 .1 .0 .0 .1 .0) refl tt $
-        reborrows ! (are .1 .1 .1 .1 .1 .1 .1 .1 .1 .1 .0 .0 .1 .0) refl tt $ goes-on ! pieces.t-3 After $
+        reborrows ! (are .0 .0 .1 .0) refl tt $ reborrows ! (are .1 .1 .1 .0 .0 .1 .0) refl tt $ reborrows !
+        (are .1 .1 .1 .1 .0 .0 .1 .0) refl tt $
+        reborrows ! (are .1 .1 .1 .1 .1 .1 .1 .1 .1 .0 .0 .1 .0) refl tt $ goes-on ! pieces.t-3 After $
         -- `join_in`
         move ! (6 ∷ 1 ∷ []) $ lent-mut ! tt P.the-row (κs .0) (qs .0) (named-as places) (ptr places .0) (ptr places .1) (now places)
         (slice-vals places) (λ ν δ.
@@ -179,15 +175,12 @@ module _ {M : Type 1} (𝓤 : URA M) (H : Heap 𝓤) (A : Atoms 𝓤) (mem : Mem
           (
             are .1 .1 .0,
             (
-              are .1 .1 .1 .0,
-              (
-                are .1 .1 .1 .1 .1 .1 .0,
-                (are .1 .1 .1 .1 .1 .1 .1 .0, (are .1 .1 .1 .1 .1 .1 .1 .1 .0, tt)),
-              ),
+              are .1 .1 .1 .1 .1 .0,
+              (are .1 .1 .1 .1 .1 .1 .0, (are .1 .1 .1 .1 .1 .1 .1 .0, tt)),
             ),
           ),
         )
-        (λ r ws. Left-is r (ws .0) (ws .1 .1 .1 .1 .0) (ws .1 .1 .1 .1 .1 .0) (ws .1 .1 .1 .1 .1 .1 .1 .1 .1 .1 .0)) (λ r ws. id⊢ 𝓤 _)
+        (λ r ws. Left-is r (ws .0) (ws .1 .1 .1 .0) (ws .1 .1 .1 .1 .0) (ws .1 .1 .1 .1 .1 .1 .1 .1 .1 .0)) (λ r ws. id⊢ 𝓤 _)
         (3 ∷ 0 ∷ 4 ∷ 5 ∷ 6 ∷ 7 ∷ 1 ∷ 8 ∷ 9 ∷ 10 ∷ 11 ∷ []) refl refl tt refl (λ r ws is-r e long.
         -- [the frame; [ν]; the tokens; what says each last list; the lender's part]
         move ! (1 ∷ 6 ∷ 10 ∷ []) $ slice-home ! tt P.the-row (κs .0) ν (qs .0) (named-as places) δ (ptr places .0) (ptr places .1)
@@ -198,17 +191,17 @@ module _ {M : Type 1} (𝓤 : URA M) (H : Heap 𝓤) (A : Atoms 𝓤) (mem : Mem
         refl tt)))
         -- past the end
         (λ over.
-        reborrows ! (are .1 .1 .1 .1 .0 .0 .1 .0) refl tt $ reborrows ! (are .1 .1 .1 .1 .1 .0 .0 .1 .0) refl tt $
-        reborrows ! (are .1 .1 .1 .1 .1 .1 .1 .1 .1 .1 .0 .0 .1 .0) refl tt $ goes-on ! pieces.t-3 After $
+        reborrows ! (are .1 .1 .1 .0 .0 .1 .0) refl tt $ reborrows ! (are .1 .1 .1 .1 .0 .0 .1 .0) refl tt $
+        reborrows ! (are .1 .1 .1 .1 .1 .1 .1 .1 .1 .0 .0 .1 .0) refl tt $ goes-on ! pieces.t-3 After $
         -- `takes::step_lost`
         calls-lent ! (fmOf 𝓤 H (W .laws) 𝓣) (StepLost 𝓤 H A mem run) known-lost (κs .1) (qs .1) tt (a .1 .1) (vs .1 .1) tt (id⊢ 𝓤 _)
-        (are .1 .1 .0, (are .1 .1 .1 .0, (are .1 .1 .1 .1 .1 .1 .0, (are .1 .1 .1 .1 .1 .1 .1 .0, (are .1 .1 .1 .1 .1 .1 .1 .1 .0, tt)))))
-        (λ r ws. Lost r (ws .1 .1 .0) (ws .1 .1 .1 .0) (ws .1 .1 .1 .1 .1 .1 .1 .1 .0)) (λ r ws. id⊢ 𝓤 _)
+        (are .1 .1 .0, (are .1 .1 .1 .1 .1 .0, (are .1 .1 .1 .1 .1 .1 .0, (are .1 .1 .1 .1 .1 .1 .1 .0, tt))))
+        (λ r ws. Lost r (ws .1 .0) (ws .1 .1 .0) (ws .1 .1 .1 .1 .1 .1 .1 .0)) (λ r ws. id⊢ 𝓤 _)
         (0 ∷ 2 ∷ 3 ∷ 4 ∷ 5 ∷ 7 ∷ 8 ∷ 9 ∷ 10 ∷ []) refl refl tt refl (λ r ws is-r e long.
         -- [the frame; the tokens; what says each last list; the places' token; the places]
         sets ! (of-opd ! (reads ! 0 refl refl)) tt (typed-as W answer _ r _ refl is-r) $
         leaves ! (Mine 𝓤 H A mem run) κs qs tt a vs tt r (now places, (tt, ws)) is-r (refl, long)
-        (factI 𝓤 _ (emp 𝓤) (lost-at over r (ws .1 .1 .0) (ws .1 .1 .1 .0) (ws .1 .1 .1 .1 .1 .1 .1 .1 .0) e))
+        (factI 𝓤 _ (emp 𝓤) (lost-at over r (ws .1 .0) (ws .1 .1 .0) (ws .1 .1 .1 .1 .1 .1 .1 .0) e))
         (0 ∷ 8 ∷ 1 ∷ 2 ∷ 3 ∷ 4 ∷ 9 ∷ 5 ∷ 6 ∷ 7 ∷ []) refl refl tt))
 
 pub join-at-spec : {M : Type 1} → stated.statement M

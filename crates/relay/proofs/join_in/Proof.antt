@@ -53,7 +53,6 @@ use Rattle.sample.specs.Place.{closed}
 use Rattle.sample.proofs.Head as Hd
 use Rattle.sample.proofs.Place as P
 use Rattle.sample.proofs.Place.Laws as P′
-use Rattle.desk.specs.declared.Shares as D
 use Rattle.asks.specs.declared.Arrival.{Arrival}
 use Rattle.asks.specs.declared.Settled.{Settled}
 use Rattle.asks.specs.Settled.{openIn}
@@ -62,7 +61,7 @@ use Rattle.asks.proofs.Settled.Laws as St′
 use Rattle.memory.specs.Relay.{tables as lent-tables, done as done-of}
 use Rattle.table.specs.Table.{headed}
 use Rattle.heads.proofs.Calls.{KnowsHead, KnowsSetHead, knows-head, knows-set-head, calls-head, calls-set-head}
-use Rattle.steps.specs.Plan.{plan, partPlanned, laidPlan}
+use Rattle.steps.specs.Plan.{plan, partPlanned, laidPlan, countedPlan}
 use Rattle.steps.specs.Kept.{joinedAt, kept-done}
 use Rattle.takes.proofs.step as step′
 use Rattle.takes.proofs.step.Symbol as step′-def
@@ -72,7 +71,7 @@ use Rattle.relay.proofs.join_in.Key.{name as #relay·join-in}
 use Rattle.relay.proofs.join_in as me
 use Rattle.relay.proofs.join_in.Statement as stated
 use Rattle.relay.proofs.join_in.Code as code
-use Rattle.relay.proofs.Values.{place, head, settled, name, answer, share, arrival}
+use Rattle.relay.proofs.Values.{place, head, settled, name, answer, arrival}
 
 -- the four arrays of a place
 abbrev numbers : Data
@@ -134,7 +133,7 @@ module _ {M : Type 1} (𝓤 : URA M) (H : Heap 𝓤) (A : Atoms 𝓤) (mem : Mem
   Mine = record {
     lifetimes = 5;
     bounds = [];
-    params = keeps 0 tt P.the-row ∷ value (number w64) ∷ value (number w64) ∷ value share ∷ gives 1 tt u32 ∷ gives 2 tt u32 ∷ value
+    params = keeps 0 tt P.the-row ∷ value (number w64) ∷ value (number w64) ∷ gives 1 tt u32 ∷ gives 2 tt u32 ∷ value
         (number w64)
         ∷ value name ∷ value arrival ∷ shares 3 tt u8 ∷ gives 4 tt u8 ∷ [];
     result = answer;
@@ -145,7 +144,7 @@ module _ {M : Type 1} (𝓤 : URA M) (H : Heap 𝓤) (A : Atoms 𝓤) (mem : Mem
   Step = record {
     lifetimes = 8;
     bounds = [];
-    params = value (number w64) ∷ value share ∷ value head ∷ points 0 tt (numbers .row) ∷ points 1 tt (numbers .row) ∷ points 2 tt
+    params = value (number w64) ∷ value head ∷ points 0 tt (numbers .row) ∷ points 1 tt (numbers .row) ∷ points 2 tt
         (numbers .row)
         ∷ points 3 tt (bytes .row) ∷ gives 4 tt u32 ∷ gives 5 tt u32 ∷ value (number w64) ∷ value name ∷ value arrival ∷ shares 6 tt u8
         ∷ gives 7 tt u8 ∷ [];
@@ -156,7 +155,7 @@ module _ {M : Type 1} (𝓤 : URA M) (H : Heap 𝓤) (A : Atoms 𝓤) (mem : Mem
 -- what is asked
 abbrev Need : (κs : Lfts 5) → Args me.signature κs → Type 0
 Need κs a = (a .1 .1 .0 ≡ length (now (a .0))) × ((a .1 .0 < a .1 .1 .0) × (getD (now (a .0)) (a .1 .0) closed .used ≡ false
-    → 1 < a .1 .1 .1 .1 .1 .1 .1 .1 .0 .part .total))
+    → 1 < a .1 .1 .1 .1 .1 .1 .1 .0 .part .total))
 
 module _ {M : Type 1} (𝓤 : URA M) (H : Heap 𝓤) (A : Atoms 𝓤) (mem : Memory → SProp 𝓤) (run : Routine → Fun 𝓤) (W : Given 𝓤 H A)
     (𝓣 : Tables 𝓤 H)
@@ -173,29 +172,26 @@ module _ {M : Type 1} (𝓤 : URA M) (H : Heap 𝓤) (A : Atoms 𝓤) (mem : Mem
     abbrev len : ℕ
     len = a .1 .1 .0
 
-    abbrev h : D.Shares
-    h = a .1 .1 .1 .0
-
     abbrev rows : List ℕ
-    rows = now (a .1 .1 .1 .1 .0)
+    rows = now (a .1 .1 .1 .0)
 
     abbrev marks : List ℕ
-    marks = now (a .1 .1 .1 .1 .1 .0)
+    marks = now (a .1 .1 .1 .1 .0)
 
     abbrev held : ℕ
-    held = a .1 .1 .1 .1 .1 .1 .0
+    held = a .1 .1 .1 .1 .1 .0
 
     abbrev who : Name
-    who = a .1 .1 .1 .1 .1 .1 .1 .0
+    who = a .1 .1 .1 .1 .1 .1 .0
 
     abbrev x : Arrival
-    x = a .1 .1 .1 .1 .1 .1 .1 .1 .0
+    x = a .1 .1 .1 .1 .1 .1 .1 .0
 
     abbrev rest : List ℕ
-    rest = now (a .1 .1 .1 .1 .1 .1 .1 .1 .1 .0)
+    rest = now (a .1 .1 .1 .1 .1 .1 .1 .1 .0)
 
     abbrev out : List ℕ
-    out = now (a .1 .1 .1 .1 .1 .1 .1 .1 .1 .1 .0)
+    out = now (a .1 .1 .1 .1 .1 .1 .1 .1 .1 .0)
 
     abbrev vs : Vals me.signature κs
     vs = valued-of 𝓤 H A (Mine 𝓤 H A mem run) κs a
@@ -225,36 +221,36 @@ module _ {M : Type 1} (𝓤 : URA M) (H : Heap 𝓤) (A : Atoms 𝓤) (mem : Mem
 
     -- what is bound for the step's parameters at exit
     abbrev Lasts : Type 0
-    Lasts = Unit {0} × (Unit {0} × (Unit {0} × (List ℕ × (List ℕ × (List ℕ × (List ℕ × (List ℕ × (List ℕ × (Unit {0} × (Unit {0} × (Unit
-        {0} × (Unit {0} × (List ℕ × Unit {0})))))))))))))
+    Lasts = Unit {0} × (Unit {0} × (List ℕ × (List ℕ × (List ℕ × (List ℕ × (List ℕ × (List ℕ × (Unit {0} × (Unit {0} × (Unit
+        {0} × (Unit {0} × (List ℕ × Unit {0}))))))))))))
 
     -- what a step left
     module _ (r : Settled) (ws : Lasts) where
       abbrev kinds : List ℕ
-      kinds = ws .1 .1 .1 .0
+      kinds = ws .1 .1 .0
 
       abbrev starts : List ℕ
-      starts = ws .1 .1 .1 .1 .0
+      starts = ws .1 .1 .1 .0
 
       abbrev lens : List ℕ
-      lens = ws .1 .1 .1 .1 .1 .0
+      lens = ws .1 .1 .1 .1 .0
 
       abbrev octets : List ℕ
-      octets = ws .1 .1 .1 .1 .1 .1 .0
+      octets = ws .1 .1 .1 .1 .1 .0
 
       abbrev rows′ : List ℕ
-      rows′ = ws .1 .1 .1 .1 .1 .1 .1 .0
+      rows′ = ws .1 .1 .1 .1 .1 .1 .0
 
       abbrev marks′ : List ℕ
-      marks′ = ws .1 .1 .1 .1 .1 .1 .1 .1 .0
+      marks′ = ws .1 .1 .1 .1 .1 .1 .1 .0
 
       abbrev out′ : List ℕ
-      out′ = ws .1 .1 .1 .1 .1 .1 .1 .1 .1 .1 .1 .1 .1 .0
+      out′ = ws .1 .1 .1 .1 .1 .1 .1 .1 .1 .1 .1 .1 .0
 
       abbrev Stepped : Type 0
       Stepped =
           (stores : List ℕ) → length stores ≡ held → plan (whole (r .head) kinds starts lens octets) (r .answer) rows′ marks′ stores out′
-          ≡ laidPlan p (partPlanned len h (openIn p) rows marks stores out who x rest)
+          ≡ countedPlan (who .desk) (p .used) (laidPlan p (partPlanned len (openIn p) rows marks stores out who x rest))
 
       -- the arrays were written where they stand, and then the numbers
       abbrev y : Place
@@ -274,12 +270,12 @@ module _ {M : Type 1} (𝓤 : URA M) (H : Heap 𝓤) (A : Atoms 𝓤) (mem : Mem
 
       stepped : Stepped → (stores : List ℕ) → length stores ≡ held
           → done-of (lent-tables ended rows′ marks′ stores) out′ (r .answer)
-          ≡ joinedAt i h (lent-tables (now places) rows marks stores) who x rest out
+          ≡ joinedAt i (lent-tables (now places) rows marks stores) who x rest out
       stepped e stores k =
           ap (λ (z : List Place). done-of (lent-tables z rows′ marks′ stores) out′ (r .answer))
           (ap (λ (z : Place). set written i (headed (r .head) z)) (getD-set-same (now places) i y closed in-table)
           ∙ set-set (now places) i y (whole (r .head) kinds starts lens octets))
-          ∙ kept-done i len h (lent-tables (now places) rows marks stores) who x rest out (need .0)
+          ∙ kept-done i len (lent-tables (now places) rows marks stores) who x rest out (need .0) (need .1 .0)
           (whole (r .head) kinds starts lens octets) (r .answer) rows′ marks′ out′ (e stores k)
 
     -- a reference to what lies d past the place's start, and its machine value
@@ -303,13 +299,13 @@ module _ {M : Type 1} (𝓤 : URA M) (H : Heap 𝓤) (A : Atoms 𝓤) (mem : Mem
         sets-as ! (vptr c at)
         (bin ! (load ! (from ! (fld ! refl (stop !))) (look-in ! 0 (sub ! 0 refl (within ! 1 tt refl)))) (reads ! 0 refl refl) tt)
         (ap (vptr c) (sym (place-is 1472 o i))) tt (tt, tt) $
-        sets ! (addr ! (from ! (hop ! (looks-at ! 0 19 refl tt refl) (stop !)))) tt (tt, tt) $
-        sets ! (addr ! (from ! (hop ! (looks-at ! 0 13 refl tt refl) (fld ! at-kinds (stop !))))) tt (tt, tt) $
-        sets ! (addr ! (from ! (hop ! (looks-at ! 0 13 refl tt refl) (fld ! at-starts (stop !))))) tt (tt, tt) $
-        sets ! (addr ! (from ! (hop ! (looks-at ! 0 13 refl tt refl) (fld ! at-lens (stop !))))) tt (tt, tt) $
-        sets ! (addr ! (from ! (hop ! (looks-at ! 0 13 refl tt refl) (fld ! at-bytes (stop !))))) tt (tt, tt) $
-        reborrows ! (are .1 .1 .1 .1 .0 .0 .1 .0) refl tt $ reborrows ! (are .1 .1 .1 .1 .1 .0 .0 .1 .0) refl tt $
-        reborrows ! (are .1 .1 .1 .1 .1 .1 .1 .1 .1 .1 .0 .0 .1 .0) refl tt $
+        sets ! (addr ! (from ! (hop ! (looks-at ! 0 18 refl tt refl) (stop !)))) tt (tt, tt) $
+        sets ! (addr ! (from ! (hop ! (looks-at ! 0 12 refl tt refl) (fld ! at-kinds (stop !))))) tt (tt, tt) $
+        sets ! (addr ! (from ! (hop ! (looks-at ! 0 12 refl tt refl) (fld ! at-starts (stop !))))) tt (tt, tt) $
+        sets ! (addr ! (from ! (hop ! (looks-at ! 0 12 refl tt refl) (fld ! at-lens (stop !))))) tt (tt, tt) $
+        sets ! (addr ! (from ! (hop ! (looks-at ! 0 12 refl tt refl) (fld ! at-bytes (stop !))))) tt (tt, tt) $
+        reborrows ! (are .1 .1 .1 .0 .0 .1 .0) refl tt $ reborrows ! (are .1 .1 .1 .1 .0 .0 .1 .0) refl tt $
+        reborrows ! (are .1 .1 .1 .1 .1 .1 .1 .1 .1 .0 .0 .1 .0) refl tt $
         -- the place is opened
         move ! (1 ∷ 2 ∷ []) $ fsplit ! $ drop ! $ fsplit ! $ opens-slice ! tt P.the-row (now places) c o $
         elem-out ! P.the-row (Is P.the-row) (shows 𝓤 H A P.the-row) (λ z. place .val z ∷ []) (place .tells) fullShare (now places) i
@@ -324,13 +320,13 @@ module _ {M : Type 1} (𝓤 : URA M) (H : Heap 𝓤) (A : Atoms 𝓤) (mem : Mem
         move ! (9 ∷ []) $ lent-field ! tt (bytes .row) (bytes .makes 𝓤 H A W) (λ xs. bytes .val xs ∷ []) c (at + 448) _
         (p .bytes) (map-id (p .bytes)) (arrays-fit p is .1 .1 .1 .0) (λ ν₄ δ₄.
         -- `takes::step`
-        let are₆ = are .1 .1 .1 .1 .1 .1 in
+        let are₅ = are .1 .1 .1 .1 .1 in
         calls-lent ! (fmOf 𝓤 H (W .laws) 𝓣) (Step 𝓤 H A mem run) known-step (ν₁ ∷ [], (ν₂ ∷ [], (ν₃ ∷ [], (ν₄ ∷ [], κs .1))))
         (fullShare, (fullShare, (fullShare, (fullShare, qs .1)))) tt
-        (len, (h, (headOf p, (to 88 δ₁ (p .kinds), (to 208 δ₂ (p .starts), (to 328 δ₃ (p .lens), (to 448 δ₄ (p .bytes), a .1 .1 .1 .1)))))))
-        (vs .1 .1 .0, (vs .1 .1 .1 .0, (head .val (headOf p) ∷ [], (ref 88, (ref 208, (ref 328, (ref 448, vs .1 .1 .1 .1))))))) tt
+        (len, (headOf p, (to 88 δ₁ (p .kinds), (to 208 δ₂ (p .starts), (to 328 δ₃ (p .lens), (to 448 δ₄ (p .bytes), a .1 .1 .1))))))
+        (vs .1 .1 .0, (head .val (headOf p) ∷ [], (ref 88, (ref 208, (ref 328, (ref 448, vs .1 .1 .1)))))) tt
         (factI 𝓤 _ (emp 𝓤) (need .1 .1))
-        (are .1 .1 .0, (are .1 .1 .1 .0, (is-q, (are₆ .0, (are₆ .1 .0, (are₆ .1 .1 .0, tt))))))
+        (are .1 .1 .0, (is-q, (are₅ .0, (are₅ .1 .0, (are₅ .1 .1 .0, tt)))))
         Stepped (λ r ws. id⊢ 𝓤 _)
         (28 ∷ 9 ∷ 6 ∷ 3 ∷ 0 ∷ 29 ∷ 30 ∷ 31 ∷ 32 ∷ 10 ∷ 7 ∷ 4 ∷ 1 ∷ 33 ∷ 34 ∷ 35 ∷ 36 ∷ []) refl refl tt refl (λ r ws is-r e long.
         -- [the frame; ν₁ … ν₄; the tokens; what says each last value; the lender's parts; the numbers; …]: the arrays come back
@@ -357,7 +353,7 @@ module _ {M : Type 1} (𝓤 : URA M) (H : Heap 𝓤) (A : Atoms 𝓤) (mem : Mem
         (same-slice r ws) $ fjoin ! $
         -- [the places; their token; the frame; the other tokens; what says each last list]
         move ! (2 ∷ []) $ sets ! (of-opd ! (load ! (from ! (fld ! {τ = head .ty} {d = 0} refl (stop !)))
-        (look-in ! 0 (sub ! 0 {τ = head .ty} {d = 0} refl (within ! 14 tt refl))))) tt
+        (look-in ! 0 (sub ! 0 {τ = head .ty} {d = 0} refl (within ! 13 tt refl))))) tt
         (typed-as W head _ (r .head) _ refl (settled-fits r is-r .0)) $
         reborrows ! (room-places .0) refl tt $
         -- `heads::set_head`
@@ -366,9 +362,9 @@ module _ {M : Type 1} (𝓤 : URA M) (H : Heap 𝓤) (A : Atoms 𝓤) (mem : Mem
         (subst (λ (n : ℕ). i < n) (sym (long-written r ws)) in-table) (λ ν δ. reads-all ! 2 refl refl) (λ nil u is-nil.
         move ! (2 ∷ []) $ lands-in ! tt (nothing-lawful 𝓤 H A W .typed nil _ is-nil .0) $
         sets ! (of-opd ! (load ! (from ! (fld ! {τ = answer .ty} {d = 88} refl (stop !)))
-        (look-in ! 0 (sub ! 1 {τ = answer .ty} {d = 88} refl (within ! 14 tt refl))))) tt
+        (look-in ! 0 (sub ! 1 {τ = answer .ty} {d = 88} refl (within ! 13 tt refl))))) tt
         (typed-as W answer _ (r .answer) _ refl (settled-fits r is-r .1)) $
-        leaves ! (Mine 𝓤 H A mem run) κs qs tt a vs tt (r .answer) (ended r ws, (tt, (tt, (tt, ws .1 .1 .1 .1 .1 .1 .1))))
+        leaves ! (Mine 𝓤 H A mem run) κs qs tt a vs tt (r .answer) (ended r ws, (tt, (tt, ws .1 .1 .1 .1 .1 .1)))
         (settled-fits r is-r .1) (length-set (written r ws) i _ ∙ long-written r ws, long) (factI 𝓤 _ (emp 𝓤) (stepped r ws e))
         (0 ∷ 2 ∷ 3 ∷ 4 ∷ 5 ∷ 6 ∷ 1 ∷ 7 ∷ 8 ∷ 9 ∷ []) refl refl tt))))))))))))
 

@@ -1,10 +1,12 @@
--- `takes::step` meets its contract: a gate that is shut leaves all as it was, and else the desk takes the part. Assumes nothing.
-use mathlib.Core.Path.{refl}
+-- `takes::step` meets its contract: a gate that is shut leaves all as it was; else the desk takes the part, and its place is counted. Assumes nothing.
+use Prim.Native.Nat.{ℕ}
+use native.Mathlib.Omega.{arith}
+use mathlib.Core.Path.{refl, ap, _∙_}
 use denote.Ref.{now}
 use lib.ListN.{length}
 use Rattle.sample.specs.Head.{whole}
-use Rattle.memory.specs.Relay.{desksOf, storeOf}
-use Rattle.gate.specs.Tests.{Fits, fits, gate-at}
+use Rattle.memory.specs.Relay.{desksOf, storeOf, storedShares}
+use Rattle.gate.specs.Tests.{Fits, fits, gate-at, desk-few}
 use Rattle.gate.specs.Tests.{row-start, mark-each, mark-start, row-end, row-byte, row-within, mark-end, mark-byte, mark-within}
 use Rattle.steps.specs.Steps.{step-shut, step-through}
 use borrow.Author.Needs.{needs}
@@ -29,26 +31,34 @@ returns c = λ stores len.
     let a = desks .before .before .before .before .before .before .args in
     let f = gate-at _ _ _ _ _ _ _ _ _ _ (gate .gate-of .ensures) (desks .desks-of .ensures) len in
     let before = whole (a .q) (now (a .kinds)) (now (a .starts)) (now (a .lens)) (now (a .bytes)) in
-    step-shut (a .table) (a .h) before (now (a .rows)) (now (a .marks)) stores (now (a .out)) (a .who) (a .x) (now (a .rest)) _ f _
+    step-shut (a .table) before (now (a .rows)) (now (a .marks)) stores (now (a .out)) (a .who) (a .x) (now (a .rest)) _ f _
     (c .before .before .g .given .1) _ (c .says .ensures)
 
 returns-2 : tie.Need-returns-2
 returns-2 c = λ stores len.
-    let took = c .before .before .before .before .before .before in
+    let counted = c .before .before in
+    let took = counted .before .before .before .before .before .before .before .before .before in
     let cut = took .before .before .before .before .before .before .before .before in
-    let through = cut .before .before .before .before in
+    let heard = cut .before .before .before .before in
+    let through = heard .before .before in
     let gate = through .before .before in
     let desks = gate .before .before .before .before in
     let a = desks .before .before .before .before .before .before .args in
     let f = gate-at _ _ _ _ _ _ _ _ _ _ (gate .gate-of .ensures) (desks .desks-of .ensures) len in
     let before = whole (a .q) (now (a .kinds)) (now (a .starts)) (now (a .lens)) (now (a .bytes)) in
-    step-through (a .table) (a .h) before (now (a .rows)) (now (a .marks)) stores (now (a .out)) (a .who) (a .x) (now (a .rest)) _ f
-    (through .enum-told .given .1) _ _ _ _ _ _ (cut .cut .ensures) (took .take-part .ensures (storeOf (a .who .desk) stores))
+    let h = heard .shares .ensures ∙ ap (λ (n : ℕ). storedShares n (a .who .desk) (now (a .marks))) (desks .desks-of .ensures) in
+    step-through (a .table) before (now (a .rows)) (now (a .marks)) stores (now (a .out)) (a .who) (a .x) (now (a .rest)) _ f
+    (through .enum-told .given .1) _ h _ _ _ _ _ _ (cut .cut .ensures) (took .take-part .ensures (storeOf (a .who .desk) stores)) _
+    (counted .count .ensures)
 
 asked : tie.Need-take-part-requires
 asked c κs =
-    let told = c .before .before .before .before .before .before .before .before .before .before .before in
+    let told = c .before .before .before .before .before .before .before .before .before .before .before .before .before in
     told .before .before .before .before .before .before .before .before .before .before .before .before .pre
+
+-- what came back of the marks is as long as they were
+long : tie.Need-same-length-5
+long c = omega (arith, c .before .marks2 .given, c .before .before .before .before .before .before .before .before .marks .given)
 
 pub step-spec : {M : Type 1} → statement M
 step-spec =
@@ -59,26 +69,28 @@ step-spec =
     (λ c. search needs)
     (λ c κs. search needs)
     (λ c. search needs)
-    (λ c. record { fits = row-start (room (c .before) .0) })
-    (λ c. record { fits = mark-each (room (c .before .before) .0) })
-    (λ c. record { fits = mark-start (room (c .before .before) .0) })
+    (λ c κs. desk-few (room (c .before) .0))
+    (λ c. record { fits = row-start (room (c .before .before .before) .0) })
+    (λ c. record { fits = mark-each (room (c .before .before .before .before) .0) })
+    (λ c. record { fits = mark-start (room (c .before .before .before .before) .0) })
     (λ c κs. search needs)
-    (λ c. record { fits = row-end (room (c .before .before .before .before .before .before .before .before) .0) })
-    (λ c. record { fits = row-byte (room (c .before .before .before .before .before .before .before .before) .0) })
+    (λ c. record { fits = row-end (room (c .before .before .before .before .before .before .before .before .before .before) .0) })
+    (λ c. record { fits = row-byte (room (c .before .before .before .before .before .before .before .before .before .before) .0) })
     (λ c. search needs)
     (λ c. search needs)
-    (λ c. row-within (room (c .before .before .before .before .before .before .before .before) .0))
-    (λ c. record { fits = mark-end (room (c .before .before .before .before .before .before .before .before .before) .0) })
-    (λ c. record { fits = mark-byte (room (c .before .before .before .before .before .before .before .before .before) .0) })
+    (λ c. row-within (room (c .before .before .before .before .before .before .before .before .before .before) .0))
+    (λ c. record { fits = mark-end (room (c .before .before .before .before .before .before .before .before .before .before .before) .0) })
+    (λ c. record { fits = mark-byte (room (c .before .before .before .before .before .before .before .before .before .before .before) .0) })
     (λ c. search needs)
     (λ c. search needs)
-    (λ c. mark-within (room (c .before .before .before .before .before .before .before .before .before) .0))
+    (λ c. mark-within (room (c .before .before .before .before .before .before .before .before .before .before .before) .0))
     asked
+    (λ c κs. desk-few (room (c .before .before .before .before .before .before .before .before .before .before .before .before .before .before .before .before .before .before .before .before .before .before) .0))
     (λ c. search needs)
     (λ c. search needs)
     (λ c. search needs)
     returns
     (λ c. search needs)
-    (λ c. search needs)
+    long
     (λ c. search needs)
     returns-2)

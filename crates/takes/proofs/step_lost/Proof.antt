@@ -1,10 +1,11 @@
 -- `takes::step_lost` meets its contract: a gate that is shut leaves all as it was, and else the desk takes the part. Assumes nothing.
-use mathlib.Core.Path.{refl}
+use Prim.Native.Nat.{ℕ}
+use mathlib.Core.Path.{refl, ap, _∙_}
 use denote.Ref.{now}
 use lib.ListN.{length}
 use Rattle.sample.specs.Place.{closed}
-use Rattle.memory.specs.Relay.{desksOf, storeOf}
-use Rattle.gate.specs.Tests.{Fits, fits, gate-at}
+use Rattle.memory.specs.Relay.{desksOf, storeOf, storedShares}
+use Rattle.gate.specs.Tests.{Fits, fits, gate-at, desk-few}
 use Rattle.gate.specs.Tests.{row-start, mark-each, mark-start, row-end, row-byte, row-within, mark-end, mark-byte, mark-within}
 use Rattle.steps.specs.Steps.{lost-shut, lost-through}
 use borrow.Author.Needs.{needs}
@@ -28,20 +29,22 @@ returns c = λ stores len.
     let desks = gate .before .before .before .before in
     let a = desks .before .before .before .before .before .before .args in
     let f = gate-at _ _ _ _ _ _ _ _ _ _ (gate .gate-of .ensures) (desks .desks-of .ensures) len in
-    lost-shut (a .table) (a .h) closed (now (a .rows)) (now (a .marks)) stores (now (a .out)) (a .who) (a .x) (now (a .rest)) _ f _
+    lost-shut (a .table) closed (now (a .rows)) (now (a .marks)) stores (now (a .out)) (a .who) (a .x) (now (a .rest)) _ f _
     (c .before .before .g .given .1) _ (c .says .ensures)
 
 returns-2 : tie.Need-returns-2
 returns-2 c = λ stores len.
     let lost = c .before .before .before .before .before .before in
     let cut = lost .before .before .before .before in
-    let through = cut .before .before .before .before in
+    let heard = cut .before .before .before .before in
+    let through = heard .before .before in
     let gate = through .before .before in
     let desks = gate .before .before .before .before in
     let a = desks .before .before .before .before .before .before .args in
     let f = gate-at _ _ _ _ _ _ _ _ _ _ (gate .gate-of .ensures) (desks .desks-of .ensures) len in
-    lost-through (a .table) (a .h) closed (now (a .rows)) (now (a .marks)) stores (now (a .out)) (a .who) (a .x) (now (a .rest)) _ f
-    (through .enum-told .given .1) _ _ _ _ _ (cut .cut .ensures) (lost .lose .ensures (storeOf (a .who .desk) stores))
+    let h = heard .shares .ensures ∙ ap (λ (n : ℕ). storedShares n (a .who .desk) (now (a .marks))) (desks .desks-of .ensures) in
+    lost-through (a .table) closed (now (a .rows)) (now (a .marks)) stores (now (a .out)) (a .who) (a .x) (now (a .rest)) _ f
+    (through .enum-told .given .1) _ h _ _ _ _ _ (cut .cut .ensures) (lost .lose .ensures (storeOf (a .who .desk) stores))
 
 pub step-lost-spec : {M : Type 1} → statement M
 step-lost-spec =
@@ -52,20 +55,21 @@ step-lost-spec =
     (λ c. search needs)
     (λ c κs. search needs)
     (λ c. search needs)
-    (λ c. record { fits = row-start (room (c .before) .0) })
-    (λ c. record { fits = mark-each (room (c .before .before) .0) })
-    (λ c. record { fits = mark-start (room (c .before .before) .0) })
+    (λ c κs. desk-few (room (c .before) .0))
+    (λ c. record { fits = row-start (room (c .before .before .before) .0) })
+    (λ c. record { fits = mark-each (room (c .before .before .before .before) .0) })
+    (λ c. record { fits = mark-start (room (c .before .before .before .before) .0) })
     (λ c κs. search needs)
-    (λ c. record { fits = row-end (room (c .before .before .before .before) .0) })
-    (λ c. record { fits = row-byte (room (c .before .before .before .before) .0) })
+    (λ c. record { fits = row-end (room (c .before .before .before .before .before .before) .0) })
+    (λ c. record { fits = row-byte (room (c .before .before .before .before .before .before) .0) })
     (λ c. search needs)
     (λ c. search needs)
-    (λ c. row-within (room (c .before .before .before .before) .0))
-    (λ c. record { fits = mark-end (room (c .before .before .before .before .before) .0) })
-    (λ c. record { fits = mark-byte (room (c .before .before .before .before .before) .0) })
+    (λ c. row-within (room (c .before .before .before .before .before .before) .0))
+    (λ c. record { fits = mark-end (room (c .before .before .before .before .before .before .before) .0) })
+    (λ c. record { fits = mark-byte (room (c .before .before .before .before .before .before .before) .0) })
     (λ c. search needs)
     (λ c. search needs)
-    (λ c. mark-within (room (c .before .before .before .before .before) .0))
+    (λ c. mark-within (room (c .before .before .before .before .before .before .before) .0))
     (λ c κs. search needs)
     (λ c. search needs)
     (λ c. search needs)

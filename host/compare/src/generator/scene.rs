@@ -364,7 +364,8 @@ impl<'a> Scene<'a> {
                 _ => &mut lent.stores,
             };
             let any = self.random.below(*length);
-            *length = self.random.pick(&[*length - 1, any, 0, any.min(3)]);
+            // 10 is the head of the marks.
+            *length = self.random.pick(&[*length - 1, any, 0, any.min(10)]);
         }
         lent
     }
