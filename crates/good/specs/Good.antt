@@ -26,7 +26,6 @@ use Rattle.memory.specs.Relay.{Tables, desksOf, placesOf, openAt, ownOf, shares
 use Rattle.memory.specs.Relay.{standsAt, placed, putBack, improper, stranger, short, lacksThree, lacking}
 use Rattle.memory.specs.Relay.{Prepared, prepared, ownMarks, freshMarks, freshTables, setUp, ordered, yielded}
 use Rattle.memory.specs.Relay.{receivedAmong, receivedAt, givenUpAmong, givenUpAt}
-use Rattle.memory.specs.Counted.{was-open}
 use Rattle.memory.specs.Back.{put-same}
 use Rattle.good.specs.Cells.{Cells, behind, front, cells-behind, length-front, cells-front}
 use Rattle.good.specs.Places.{open-named, is-used, Moved, moved}
@@ -208,7 +207,7 @@ module _ (n : ℕ) (s : Tables) (desk time : ℕ) where
     put-stored : Stored n (placesOf n (putBack n s desk time o)) (putBack n s desk time o .marks)
     put-stored =
         stored-moved n desk time (o .place) (placesOf n s) _ (g .to) (g .fair) h (fits .moved) _ _
-        (was-open desk time (placesOf n s) (o .place)) (is-used desk time (o .place) (placesOf n s) (k .named) found)
+        refl (is-used desk time (o .place) (placesOf n s) (k .named) found)
         spliced (omega (arith, g .marks, fits .marks .long))
         (record {
           opens = λ e q. head-stays (opensAt + e) (omega arith) ∙ g .stored .opens e q;

@@ -24,28 +24,28 @@ use Rattle.good.specs.Counts.{recounted-length, recounted-desks, recount
 use Rattle.good.specs.Good.{Good, shares-are, below}
 
 -- ---- receive, by the shares as a walk finds them; the desk's own things are put back, and nothing is counted
-abbrev pub walkedBack : (n : ℕ) → Tables → (desk time : ℕ) → After → Done
-walkedBack n s desk time a = done (putOwn n s desk time (a .own)) (a .own .out) (a .answer)
+abbrev pub walkedSettled : (n : ℕ) → Tables → (desk time : ℕ) → After → Done
+walkedSettled n s desk time a = done (putOwn n s desk time (a .own)) (a .own .out) (a .answer)
 
 unfoldable pub walkedAmong : (n : ℕ) → Tables → (desk time : ℕ) → (rest out : List ℕ) → Done
 walkedAmong n s desk time rest out =
-    walkedBack n s desk time
+    walkedSettled n s desk time
     (ordered (stranger n desk or lacking n s) (sharesOf n desk (placesOf n s)) (ownOf n s desk time out) desk time rest)
 
 abbrev pub walkedAt : Tables → Name → (rest out : List ℕ) → Done
 walkedAt s who rest out = walkedAmong (desksOf (s .marks)) s (who .desk) (who .time) rest out
 
 -- ---- give-up
-abbrev pub walkedFree : (n : ℕ) → Tables → (desk time : ℕ) → Given → Released
-walkedFree n s desk time a = released (putOwn n s desk time (a .own)) (a .answer)
+abbrev pub walkedReturned : (n : ℕ) → Tables → (desk time : ℕ) → Given → Released
+walkedReturned n s desk time a = released (putOwn n s desk time (a .own)) (a .answer)
 
-unfoldable pub walkedUpAmong : (n : ℕ) → Tables → (desk time : ℕ) → Released
-walkedUpAmong n s desk time =
-    walkedFree n s desk time
+unfoldable pub walkedGivenUpAmong : (n : ℕ) → Tables → (desk time : ℕ) → Released
+walkedGivenUpAmong n s desk time =
+    walkedReturned n s desk time
     (yielded (stranger n desk or lacksThree n (length (s .places)) (length (s .rows)) (length (s .marks))) (ownOf n s desk time []) time)
 
 abbrev pub walkedGivenUp : Tables → Name → Released
-walkedGivenUp s who = walkedUpAmong (desksOf (s .marks)) s (who .desk) (who .time)
+walkedGivenUp s who = walkedGivenUpAmong (desksOf (s .marks)) s (who .desk) (who .time)
 
 -- ---- tables alike, but for the numbers in the head of the marks
 pub record Alike (s r : Tables) : Type 0 where
@@ -129,7 +129,7 @@ module _ (n : ℕ) (s r : Tables) (g : Good n s) (a : Alike s r) (desk time : �
       let l : headSize ≤ length (s .marks) = omega (arith, g .marks) in
       let k : headSize ≤ length (r .marks) = omega (arith, a .long) in
       let put : List ℕ → List ℕ = splice m marksEach (o .marks) in
-      let was = wasOpen desk time (o .place) (placesOf n s) in
+      let was = wasOpen desk time (placesOf n s) in
       let is = isOpen desk time (o .place) (placesOf n s) in
       let back = splice (headSize + m) marksEach (o .marks) (s .marks) in
       record {
@@ -156,7 +156,7 @@ module _ (n : ℕ) (s r : Tables) (g : Good n s) (a : Alike s r) (desk time : �
   receive-among rest out =
       subst
       (λ (w : Bool). AsWalked (receivedAmong n s desk time rest out)
-      (walkedBack n r desk time (ordered (stranger n desk or w) (sharesOf n desk (placesOf n r)) (ownOf n r desk time out) desk time rest)))
+      (walkedSettled n r desk time (ordered (stranger n desk or w) (sharesOf n desk (placesOf n r)) (ownOf n r desk time out) desk time rest)))
       lack (go (stranger n desk or lacking n s) refl)
     where
       lack : lacking n s ≡ lacking n r
@@ -164,7 +164,7 @@ module _ (n : ℕ) (s r : Tables) (g : Good n s) (a : Alike s r) (desk time : �
 
       go : (one : Bool) → (stranger n desk or lacking n s) ≡ one
           → AsWalked (settled n s desk time (ordered one (storedShares n desk (s .marks)) (ownOf n s desk time out) desk time rest))
-          (walkedBack n r desk time (ordered one (sharesOf n desk (placesOf n r)) (ownOf n r desk time out) desk time rest))
+          (walkedSettled n r desk time (ordered one (sharesOf n desk (placesOf n r)) (ownOf n r desk time out) desk time rest))
       go true e = record { answer = refl; out = refl; tables = still-alike out }
       go false e =
           let h = below n desk (or-none _ _ e .0) in
@@ -179,12 +179,12 @@ module _ (n : ℕ) (s r : Tables) (g : Good n s) (a : Alike s r) (desk time : �
                 (put-alike h (stored .own));
           }
 
-  give-up-among : GivenUpAsWalked (givenUpAmong n s desk time) (walkedUpAmong n r desk time)
-  unfolding givenUpAmong walkedUpAmong yielded _⇒_⁏_
+  give-up-among : GivenUpAsWalked (givenUpAmong n s desk time) (walkedGivenUpAmong n r desk time)
+  unfolding givenUpAmong walkedGivenUpAmong yielded _⇒_⁏_
   give-up-among =
       subst
       (λ (w : Bool). GivenUpAsWalked (givenUpAmong n s desk time)
-      (walkedFree n r desk time (yielded (stranger n desk or w) (ownOf n r desk time []) time)))
+      (walkedReturned n r desk time (yielded (stranger n desk or w) (ownOf n r desk time []) time)))
       lack (go (stranger n desk or lacksThree n (length (s .places)) (length (s .rows)) (length (s .marks))) refl)
     where
       lack : lacksThree n (length (s .places)) (length (s .rows)) (length (s .marks))
@@ -193,7 +193,7 @@ module _ (n : ℕ) (s r : Tables) (g : Good n s) (a : Alike s r) (desk time : �
 
       go : (one : Bool) → (stranger n desk or lacksThree n (length (s .places)) (length (s .rows)) (length (s .marks))) ≡ one
           → GivenUpAsWalked (returned n s desk time (yielded one (ownOf n s desk time []) time))
-          (walkedFree n r desk time (yielded one (ownOf n r desk time []) time))
+          (walkedReturned n r desk time (yielded one (ownOf n r desk time []) time))
       go true e = record { answer = refl; tables = still-alike [] }
       go false e =
           let stored = yielded false (ownOf n s desk time []) time in
@@ -219,7 +219,7 @@ module _ (n : ℕ) (s r : Tables) (g : Good n s) (a : Alike s r) (who : Name) wh
   pub give-up-alike : GivenUpAsWalked (givenUpAt s who) (walkedGivenUp r who)
   give-up-alike =
       subst (λ (k : ℕ). GivenUpAsWalked (givenUpAmong k s (who .desk) (who .time)) (walkedGivenUp r who)) (sym (heads .0))
-      (subst (λ (k : ℕ). GivenUpAsWalked (givenUpAmong n s (who .desk) (who .time)) (walkedUpAmong k r (who .desk) (who .time)))
+      (subst (λ (k : ℕ). GivenUpAsWalked (givenUpAmong n s (who .desk) (who .time)) (walkedGivenUpAmong k r (who .desk) (who .time)))
       (sym (heads .1)) (give-up-among n s r g a (who .desk) (who .time)))
 
 -- ---- in the same good tables

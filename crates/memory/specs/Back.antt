@@ -15,7 +15,7 @@ use Rattle.sample.specs.Place.{bare, closed}
 use Rattle.memory.specs.Table.{isAt}
 use Rattle.memory.specs.Relay.{Tables, tables, placesOf, openAt, ownOf, standsAt, placed, wasOpen, isOpen, recounted, putOwn}
 use Rattle.memory.specs.Relay.{putBack}
-use Rattle.memory.specs.Counted.{recounted-same}
+use Rattle.memory.specs.Counted.{recounted-same, was-open}
 
 -- ---- the desk's sample put back where it stood changes nothing
 pub placed-open : (d t : ℕ) (l : List Place) → placed d t (openAt d t l) l ≡ l
@@ -29,8 +29,9 @@ placed-open d t l =
     free h = ap (λ (y : Place). y .used) (List·getD-eq-default l closed h)
 
 -- and it is open where it was
-pub still-open : (d t : ℕ) (l : List Place) → isOpen d t (openAt d t l) l ≡ wasOpen d t (openAt d t l) l
-still-open d t l = ap (λ (k : List Place). getD k (standsAt d t (openAt d t l) l) closed .used) (placed-open d t l)
+pub still-open : (d t : ℕ) (l : List Place) → isOpen d t (openAt d t l) l ≡ wasOpen d t l
+still-open d t l =
+    ap (λ (k : List Place). getD k (standsAt d t (openAt d t l) l) closed .used) (placed-open d t l) ∙ was-open d t l (openAt d t l)
 
 pub own-same : (n : ℕ) (s : Tables) (desk time : ℕ) (out : List ℕ) → putOwn n s desk time (ownOf n s desk time out) ≡ s
 own-same n s desk time out = λ i. record {
@@ -47,7 +48,7 @@ own-same n s desk time out = λ i. record {
 
 pub put-same : (n : ℕ) (s : Tables) (desk time : ℕ) (out : List ℕ) → putBack n s desk time (ownOf n s desk time out) ≡ s
 put-same n s desk time out =
-    let w = wasOpen desk time (openAt desk time (placesOf n s)) (placesOf n s) in
+    let w = wasOpen desk time (placesOf n s) in
     let counted : Bool → Tables → Tables = (λ b t. tables (t .places) (t .rows) (recounted desk w b (t .marks)) (t .stores)) in
     ap (λ (b : Bool). counted b (putOwn n s desk time (ownOf n s desk time out))) (still-open desk time (placesOf n s))
     ∙ ap (counted w) (own-same n s desk time out)

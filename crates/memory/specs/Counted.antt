@@ -1,13 +1,13 @@
 -- The stored numbers: what a call is about was open where the desk's sample was; a place that stays as it was leaves the numbers.
 -- Assumes nothing.
-use Prim.Native.Nat.{ℕ, _+_, _≤_, _<_}
+use Prim.Native.Nat.{ℕ, _+_, _-_, _≤_, _<_}
 use native.Mathlib.Omega.{arith}
 use mathlib.Core.Path.{_≡_, refl, sym, ap, _∙_}
 use mathlib.Core.Bool.{Bool, true, false}
 use mathlib.Core.List.{List}
 use lib.ListN.{length, getD, set, List·getD-eq-default}
 use lib.Seq.{set-getD, set-out, getD-set-same}
-use Rattle.laws.specs.Rows.{_⇒_⁏_, _<?_, each, ge, lt-of, ge-of, and-of, not-is}
+use Rattle.laws.specs.Rows.{_⇒_⁏_, _<?_, each, lt, ge, lt-of, ge-of, and-of, not-is}
 use Rattle.laws.specs.Table.{seek, seek-hit}
 use Rattle.paper.specs.Limits.{opensAt, commonAt, markMost}
 use Rattle.sample.specs.declared.Place.{Place}
@@ -15,14 +15,18 @@ use Rattle.sample.specs.Place.{bare, closed}
 use Rattle.memory.specs.Table.{vacant, isAt}
 use Rattle.memory.specs.Relay.{opensOf, commonOf, openAt, standsAt, wasOpen, isOpen, stepped, commonStepped, recounted}
 
--- ---- in tables that nobody set up: none is counted below 0, and none over what a mark holds
-pub stays-zero : stepped true false 0 ≡ 0
+-- ---- one more, but where a mark is full, which is so in no tables that set-up made; one fewer, and of 0 none
+pub stepped-up : (k : ℕ) → k < markMost → stepped false true k ≡ k + 1
 unfolding stepped _⇒_⁏_
-stays-zero = refl
+stepped-up k h = rw (lt k markMost h)
 
-pub stays-full : stepped false true markMost ≡ markMost
+pub stepped-full : (k : ℕ) → markMost ≤ k → stepped false true k ≡ k
 unfolding stepped _⇒_⁏_
-stays-full = rw (ge markMost markMost (omega arith))
+stepped-full k h = rw (ge k markMost h)
+
+pub stepped-down : (k : ℕ) → stepped true false k ≡ k - 1
+unfolding stepped _⇒_⁏_
+stepped-down k = refl
 
 pub stepped-fits : (was is : Bool) (k : ℕ) → k ≤ markMost → stepped was is k ≤ markMost
 unfolding stepped
@@ -61,8 +65,8 @@ module _ (d t : ℕ) (l : List Place) where
       go true e = not-is _ (h (lt-of _ _ e))
       go false e = ap (λ (y : Place). y .used) (List·getD-eq-default l closed (ge-of _ _ e))
 
-  -- it was open where the desk's sample of that time was
-  pub was-open : (p : Place) → wasOpen d t p l ≡ openAt d t l .used
+  -- what stood there was open where the desk's sample of that time was
+  pub was-open : (p : Place) → getD l (standsAt d t p l) closed .used ≡ wasOpen d t l
   unfolding standsAt
   was-open p =
       each (λ (i : ℕ). getD l i closed .used ≡ openAt d t l .used) _ _ _ (λ h. refl)

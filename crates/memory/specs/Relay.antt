@@ -91,9 +91,9 @@ standsAt desk time p l =
 abbrev pub placed : (desk time : ℕ) → Place → List Place → List Place
 placed desk time p l = set l (standsAt desk time p l) p
 
--- that place is open, before the call and after it
-abbrev pub wasOpen : (desk time : ℕ) → Place → List Place → Bool
-wasOpen desk time p l = getD l (standsAt desk time p l) closed .used
+-- the desk's sample of this time is open, before the call; and after it, in the place where it stands
+abbrev pub wasOpen : (desk time : ℕ) → List Place → Bool
+wasOpen desk time l = openAt desk time l .used
 
 abbrev pub isOpen : (desk time : ℕ) → Place → List Place → Bool
 isOpen desk time p l = getD (placed desk time p l) (standsAt desk time p l) closed .used
@@ -130,7 +130,7 @@ abbrev pub putBack : (n : ℕ) → Tables → (desk time : ℕ) → Own → Tabl
 putBack n s desk time o =
     let t = putOwn n s desk time o in
     tables (t .places) (t .rows)
-    (recounted desk (wasOpen desk time (o .place) (placesOf n s)) (isOpen desk time (o .place) (placesOf n s)) (t .marks)) (t .stores)
+    (recounted desk (wasOpen desk time (placesOf n s)) (isOpen desk time (o .place) (placesOf n s)) (t .marks)) (t .stores)
 
 -- ---- refusal 1: n is not 1 to 8, the desk is not below n, or something lent is shorter than n needs
 unfoldable pub improper : (n : ℕ) → Bool

@@ -33,11 +33,11 @@ use Rattle.asks.specs.Settled.{openIn, hasPlace, partOf, arrivalOf, unasked, pa
 use Rattle.table.specs.Table.{stored as putIn, holds}
 use Rattle.others.specs.Others.{received-any as any-received}
 use Rattle.memory.specs.Table.{vacant, isAt}
-use Rattle.memory.specs.Relay.{Tables, tables, desksOf, placesOf, rowOf, marksOf, storeOf, storedShares, openAt, ownOf, placed, wasOpen, isOpen}
-use Rattle.memory.specs.Relay.{recounted, stranger, lacking, lacksThree, Done, done, ordered, settled, receivedAmong, receivedAt, Released, released, yielded}
-use Rattle.memory.specs.Relay.{returned, givenUpAmong, givenUpAt}
+use Rattle.memory.specs.Relay.{Tables, tables, desksOf, placesOf, rowOf, marksOf, storeOf, storedShares, openAt, ownOf, placed}
+use Rattle.memory.specs.Relay.{wasOpen, isOpen, recounted, stranger, lacking, lacksThree, Done, done, ordered, settled, receivedAmong}
+use Rattle.memory.specs.Relay.{receivedAt, Released, released, yielded, returned, givenUpAmong, givenUpAt}
 use Rattle.memory.specs.Back.{placed-open, still-open, put-same}
-use Rattle.memory.specs.Counted.{recounted-same, was-open, is-closed}
+use Rattle.memory.specs.Counted.{recounted-same, is-closed}
 use Rattle.looks.specs.Looks.{reachOf, reachFor, askedOf, spotOf, freedAt}
 use Rattle.steps.specs.Plan.{gated, Plan, plan, planOf, ownAt, partPlanned, passPlanned, Yield, yield, yielding, placeAfter}
 use Rattle.gate.specs.Tests.{proper, three-long, all-long}
@@ -205,7 +205,7 @@ module _ (s : Tables) (who : Name) where
         outcome k =
             let q = makes k .own .place in
             let l = take k (s .places) in
-            spliced (placed (who .desk) (who .time) q l ++ drop k (s .places)) (wasOpen (who .desk) (who .time) q l)
+            spliced (placed (who .desk) (who .time) q l ++ drop k (s .places)) (wasOpen (who .desk) (who .time) l)
             (isOpen (who .desk) (who .time) q l) (makes k)
 
         fits : m ≤ len
@@ -304,12 +304,11 @@ module _ (s : Tables) (who : Name) where
         z = planned-of theirs
 
         was : Bool
-        was = wasOpen (who .desk) (who .time) (theirs .own .place) (placesOf n s)
+        was = wasOpen (who .desk) (who .time) (placesOf n s)
 
         still : isOpen (who .desk) (who .time) (theirs .own .place) (placesOf n s) ≡ was
         still =
-            subst (λ (q : Place). isOpen (who .desk) (who .time) q (placesOf n s) ≡ wasOpen (who .desk) (who .time) q (placesOf n s))
-            (sym stays) (still-open (who .desk) (who .time) (placesOf n s))
+            ap (λ (q : Place). isOpen (who .desk) (who .time) q (placesOf n s)) stays ∙ still-open (who .desk) (who .time) (placesOf n s)
 
         all : placed (who .desk) (who .time) (theirs .own .place) (placesOf n s) ++ drop (places n) (s .places) ≡ s .places
         all =
@@ -467,7 +466,6 @@ module _ (s : Tables) (who : Name) where
           rw (
             freed-at q u,
             splice-part (storeSize * who .desk) storeSize (s .stores),
-            was-open (who .desk) (who .time) (placesOf n s) closed,
             is-closed (who .desk) (who .time) (placesOf n s),
             ← (used-is q),
           )

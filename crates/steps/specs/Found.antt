@@ -15,7 +15,7 @@ use Rattle.asks.specs.Settled.{openIn, laid}
 use Rattle.table.specs.Table.{holds}
 use Rattle.memory.specs.Table.{vacant, isAt}
 use Rattle.memory.specs.Relay.{standsAt, placed, wasOpen, isOpen}
-use Rattle.memory.specs.Counted.{was-open, is-open, is-none}
+use Rattle.memory.specs.Counted.{is-open, is-none}
 use Rattle.looks.specs.Looks.{reachOf, spotOf}
 use Rattle.steps.specs.Kept.{beforeAt, keptPlaces, open-none}
 
@@ -78,7 +78,7 @@ module _ (desk time m : ℕ) (l : List Place) (fits : m ≤ length l) where
 
   pub record Goes (i : ℕ) (p : Place) : Type 0 where
     pub goes : keptPlaces i l p ≡ placed desk time p (take m l) ++ drop m l
-    pub was : beforeAt i l .used ≡ wasOpen desk time p (take m l)
+    pub was : beforeAt i l .used ≡ wasOpen desk time (take m l)
     pub is : beforeAt i (keptPlaces i l p) .used ≡ isOpen desk time p (take m l)
 
   pub before-found : at < m → beforeAt at l ≡ found
@@ -92,7 +92,7 @@ module _ (desk time m : ℕ) (l : List Place) (fits : m ≤ length l) where
       let i = stands-found h p in
       record {
         goes = ap (set l at) (sym q) ∙ set-front m at p l fits h ∙ ap (λ (i : ℕ). set (take m l) i p ++ drop m l) (sym i);
-        was = ap (λ (y : Place). y .used) (before-found h) ∙ sym (was-open desk time (take m l) p);
+        was = ap (λ (y : Place). y .used) (before-found h);
         is =
             ap (λ (y : Place). y .used) (getD-set-same l at _ closed (omega arith) ∙ sym q)
             ∙ sym (is-open desk time (take m l) p (omega (arith, i, long)));
@@ -103,8 +103,8 @@ module _ (desk time m : ℕ) (l : List Place) (fits : m ≤ length l) where
       let e = seek-hit vacant (take m l) closed (omega (arith, long)) in
       ap (λ (y : Place). y .used) (sym (getD-take m l low closed h)) ∙ not-is _ e
 
-  was-none : m ≤ at → (p : Place) → wasOpen desk time p (take m l) ≡ false
-  was-none h p = was-open desk time (take m l) p ∙ found-used ∙ ge _ _ h
+  was-none : m ≤ at → wasOpen desk time (take m l) ≡ false
+  was-none h = found-used ∙ ge _ _ h
 
   goes-new : m ≤ at → low < m → (p : Place) → Goes low p
   unfolding laid bare _⇒_⁏_
@@ -112,7 +112,7 @@ module _ (desk time m : ℕ) (l : List Place) (fits : m ≤ length l) where
     goes =
         ap (λ (b : Bool). set l low (b ⇒ p ⁏ p .used ⇒ p ⁏ beforeAt low l)) (before-low k)
         ∙ put (p .used) ∙ ap (λ (i : ℕ). set (take m l) i p ++ drop m l) (sym (stands-new h p));
-    was = before-low k ∙ sym (was-none h p);
+    was = before-low k ∙ sym (was-none h);
     is =
         ap (λ (y : Place). y .used) (getD-set-same l low _ closed (omega arith))
         ∙ ap (λ (b : Bool). (b ⇒ p ⁏ p .used ⇒ p ⁏ beforeAt low l) .used) (before-low k) ∙ open-in (p .used) refl (stands-new h p);
@@ -133,7 +133,7 @@ module _ (desk time m : ℕ) (l : List Place) (fits : m ≤ length l) where
   goes-none h p k = record {
     goes =
         set-out l (length l) _ (omega arith) ∙ put (p .used) k ∙ ap (λ (i : ℕ). set (take m l) i p ++ drop m l) (sym (stands-new h p));
-    was = none ∙ sym (was-none h p);
+    was = none ∙ sym (was-none h);
     is =
         ap (λ (t : List Place). beforeAt (length l) t .used) (set-out l (length l) _ (omega arith))
         ∙ none ∙ sym (is-none desk time (take m l) p (past (p .used) k (stands-new h p)));

@@ -1,6 +1,6 @@
 -- The steps of a call in between: what a call leaves of everything but the table. Assumes nothing.
 use Prim.Native.Nat.{ℕ, _+_, _*_}
-use mathlib.Core.Bool.{Bool, false}
+use mathlib.Core.Bool.{Bool}
 use mathlib.Core.List.{List, []}
 use lib.ListN.{length}
 use Rattle.laws.specs.Rows.{_⇒_⁏_, _or_, _<?_}
@@ -109,8 +109,3 @@ yielding table p rows marks who =
 abbrev pub placeAfter : GivenUp → Place → Place
 placeAfter G.Freed p = closed
 placeAfter (G.Refused r) p = p
-
--- and whether it is open, where it was or was not
-abbrev pub stillOpen : GivenUp → (was : Bool) → Bool
-stillOpen G.Freed was = false
-stillOpen (G.Refused r) was = was

@@ -5,7 +5,7 @@ use mathlib.Core.Path.{_≡_, refl, sym, ap, ap₂, _∙_}
 use mathlib.Core.Bool.{Bool, true, false}
 use mathlib.Core.List.{List, []}
 use lib.ListN.{length}
-use Rattle.laws.specs.Rows.{_⇒_⁏_, yes, no}
+use Rattle.laws.specs.Rows.{_⇒_⁏_, each, yes, no}
 use Rattle.laws.specs.Region.{part, splice, splice-part}
 use Rattle.paper.specs.Limits.{finishedMost, headSize, marksEach, storeSize}
 use Rattle.paper.specs.declared.Answer.{Answer}
@@ -29,7 +29,7 @@ use Rattle.gate.specs.declared.Gate.the-variants.{Through, Shut}
 use Rattle.gate.specs.Gate.{gateOf}
 use Rattle.steps.specs.Kept.{laid-same}
 use Rattle.steps.specs.Plan.{gated, Plan, plan, planOf, ownAt, settledPlan, partOfRest, partPlanned, laidPlan, countedPlan}
-use Rattle.steps.specs.Plan.{passPlanned, Yield, yield, yieldOf, countedYield, yielding, placeAfter, stillOpen}
+use Rattle.steps.specs.Plan.{passPlanned, Yield, yield, yieldOf, countedYield, yielding, placeAfter}
 use Rattle.gate.specs.Tests.{either, other, shut, clear}
 
 -- a part s[a..a + k] of k elements
@@ -212,11 +212,10 @@ given-place s time = go (s .place .used) refl
     go true e = rw e
     go false e = rw e
 
--- and so is whether it is open
-still-open : (r : GivenUp) (p : Place) → stillOpen r (p .used) ≡ placeAfter r p .used
-unfolding bare
-still-open G.Freed p = refl
-still-open (G.Refused w) p = refl
+-- and it is not open
+given-free : (s : Own) (time : ℕ) → givenUp s time .own .place .used ≡ false
+unfolding givenUp bare
+given-free s time = each (λ (g : Given). g .own .place .used ≡ false) _ _ _ (λ u. refl) (λ u. u)
 
 module _ (table : ℕ) (p : Place) (rows marks : List ℕ) (who : Name) where
   abbrev hers : Own
@@ -252,15 +251,16 @@ module _ (table : ℕ) (p : Place) (rows marks : List ℕ) (who : Name) where
           → freed q r row′ marks′ [] []
           ≡ givenUp (own p (deskPart (rowAt (who .desk)) finishedMost rows) (deskPart (markAt (who .desk)) marksEach marks) [] [])
           (who .time)
-          → (was still : Bool) → p .used ≡ was → still ≡ stillOpen r was → (marks″ : List ℕ)
-          → marks″ ≡ recounted (who .desk) was still (deskBack (markAt (who .desk)) marksEach marks′ marks)
+          → (was : Bool) → p .used ≡ was → (marks″ : List ℕ)
+          → marks″ ≡ recounted (who .desk) was false (deskBack (markAt (who .desk)) marksEach marks′ marks)
           → yield (placeAfter r p) r (deskBack (rowAt (who .desk)) finishedMost row′ rows) marks″ ≡ yielding table p rows marks who
       unfolding yielding yielded
-      yield-through enough q r row′ marks′ e was still o is marks″ counted =
+      yield-through enough q r row′ marks′ e was o marks″ counted =
           let e′ : freed q r row′ marks′ [] [] ≡ givenUp hers (who .time) =
           rw (widths (rowAt (who .desk)) finishedMost, widths (markAt (who .desk)) marksEach) at e in
           let same : placeAfter r p ≡ q =
           ap (λ (z : Given). placeAfter (z .answer) p) e′ ∙ sym (given-place hers (who .time))
           ∙ ap (λ (z : Given). z .own .place) (sym e′) in
-          rw (counted, is, ← o, still-open r p, same, widths (rowAt (who .desk)) finishedMost, widths (markAt (who .desk)) marksEach)
+          let free : q .used ≡ false = ap (λ (z : Given). z .own .place .used) e′ ∙ given-free hers (who .time) in
+          rw (counted, ← o, ← free, same, widths (rowAt (who .desk)) finishedMost, widths (markAt (who .desk)) marksEach)
           (ap (λ (a : Given). counts (yieldOf (who .desk) rows marks a)) (e′ ∙ no _ _ (other _ _ _ (sym f ∙ known) (sym k ∙ enough)) refl))

@@ -24,45 +24,51 @@ pub fn shares(marks: &[u32], n: usize, desk: usize) -> Shares
     }
 }
 
-// One more, one fewer, or as many as before.
-fn step(was: bool, is: bool, k: u32) -> u32
-    ensures { λ r. ⌜ r ≡ stepped was is k ⌝ }
+// One more where the place is open now, one fewer where it was.
+fn step(is: bool, k: u32) -> u32
+    ensures { λ r. ⌜ r ≡ stepped (not is) is k ⌝ }
 {
-    if was {
-        if is {
-            return k;
-        }
-        return octets::less(k as usize, 1) as u32;
-    }
     if is {
         if (k as usize) < MARK_MOST {
             return k + 1;
         }
+        return k;
+    }
+    octets::less(k as usize, 1) as u32
+}
+
+// How many the desk has open with this one: so many without it where it is open now, so many with it where it was.
+fn with_it(is: bool, opens: u32) -> usize
+    ensures { λ r. ⌜ r ≡ opens + bit is ⌝ }
+{
+    if is {
+        return opens as usize + 1;
+    }
+    opens as usize
+}
+
+// The same of the common use, where the desk had so many open.
+fn common_step(is: bool, opens: u32, k: u32) -> u32
+    ensures { λ r. ⌜ r ≡ commonStepped (not is) is opens k ⌝ }
+{
+    if OWN_PLACES < with_it(is, opens) {
+        return step(is, k);
     }
     k
 }
 
-// How many the desk has open with this one, where it has so many open without it or, if it was open, with it.
-fn with_it(was: bool, opens: u32) -> usize
-    ensures { λ r. ⌜ r ≡ opens + bit (not was) ⌝ }
+// Counts a place that was free and is open now, or was open and is free.
+fn change(marks: &mut [u32], desk: usize, is: bool)
+    requires { ⌜ desk < desksMost ⌝ }
+    ensures { λ _. ⌜ now (marks .exit) ≡ recounted desk (not is) is (now (marks .entry)) ⌝ }
 {
-    if was {
-        return opens as usize;
-    }
-    opens as usize + 1
+    let opens = octets::word(marks, OPENS_AT + desk);
+    let common = octets::word(marks, COMMON_AT);
+    octets::put_word(marks, OPENS_AT + desk, step(is, opens));
+    octets::put_word(marks, COMMON_AT, common_step(is, opens, common));
 }
 
-// The same of the common use, where the desk has so many open.
-fn common_step(was: bool, is: bool, opens: u32, k: u32) -> u32
-    ensures { λ r. ⌜ r ≡ commonStepped was is opens k ⌝ }
-{
-    if OWN_PLACES < with_it(was, opens) {
-        return step(was, is, k);
-    }
-    k
-}
-
-// Counts the place of a call.
+// Counts the place of a call, which was open or not and is now or not.
 pub fn count(marks: &mut [u32], desk: usize, was: bool, is: bool)
     requires { ⌜ desk < desksMost ⌝ }
     ensures { λ _. ⌜ now (marks .exit) ≡ recounted desk was is (now (marks .entry)) ⌝ }
@@ -71,11 +77,10 @@ pub fn count(marks: &mut [u32], desk: usize, was: bool, is: bool)
         if is {
             return;
         }
-    } else if !is {
+        change(marks, desk, false);
         return;
     }
-    let opens = octets::word(marks, OPENS_AT + desk);
-    let common = octets::word(marks, COMMON_AT);
-    octets::put_word(marks, OPENS_AT + desk, step(was, is, opens));
-    octets::put_word(marks, COMMON_AT, common_step(was, is, opens, common));
+    if is {
+        change(marks, desk, true);
+    }
 }

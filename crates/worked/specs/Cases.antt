@@ -210,14 +210,15 @@ case-17-modifiers =
 abbrev two : (common first second : ℕ) → List ℕ
 two common first second = 2 ∷ common ∷ first ∷ second ∷ replicate 6 0
 
--- the third takes a common place; one is joined, and another opened; one is spoiled (refusal 10: three bytes of fourteen), and of the two
--- that are left one is given up
+-- the third takes a common place; one is joined; with two open a sample of one part opens and ends in one call, joined or, being of TYPE
+-- 3, spoiled; another is opened, and one is spoiled (refusal 10: three bytes of fourteen); of the two that are left one is given up
 abbrev case-stored : Case
 case-stored =
     stores
-    (opens 0 (1 ∷ 2 ∷ 3 ∷ []) ++ (at 0 1 part2 ∷ at 0 4 part1
+    (opens 0 (1 ∷ 2 ∷ 3 ∷ []) ++ (at 0 1 part2 ∷ at 0 5 (0x02 ∷ 0x00 ∷ 0x0A ∷ 0x11 ∷ 0x00 ∷ 0x00 ∷ 0x64 ∷ 0x80 ∷ 0x00 ∷ 0x01 ∷ 0x41 ∷ [])
+    ∷ at 0 6 (0x03 ∷ 0x00 ∷ 0x07 ∷ 0x11 ∷ 0x00 ∷ 0x00 ∷ 0x64 ∷ 0x41 ∷ []) ∷ at 0 4 part1
     ∷ at 0 3 (0x03 ∷ 0x00 ∷ 0x07 ∷ 0x22 ∷ 0x00 ∷ 0x00 ∷ 0x64 ∷ 0xFF ∷ []) ∷ give-up 0 2 ∷ []))
-    (two 0 0 0 ∷ two 0 1 0 ∷ two 0 2 0 ∷ two 1 3 0 ∷ two 0 2 0 ∷ two 1 3 0 ∷ two 0 2 0 ∷ two 0 1 0 ∷ [])
+    (two 0 0 0 ∷ two 0 1 0 ∷ two 0 2 0 ∷ two 1 3 0 ∷ two 0 2 0 ∷ two 0 2 0 ∷ two 0 2 0 ∷ two 1 3 0 ∷ two 0 2 0 ∷ two 0 1 0 ∷ [])
 
 -- case 10, whose refusals 8 and 9 count for nothing
 abbrev case-stored-10 : Case

@@ -13,7 +13,7 @@ use unit::Reading;
 ghost use mathlib.Core.Path.{_≡_};
 ghost use Rattle.laws.specs.Rows.{_<?_};
 ghost use Rattle.sample.specs.declared.Place.{Place};
-ghost use Rattle.steps.specs.Plan.{plan, passPlanned, yield, yielding, placeAfter, stillOpen};
+ghost use Rattle.steps.specs.Plan.{plan, passPlanned, yield, yielding, placeAfter};
 
 // Settles a call with a unit that is no part: of the places it hears only whether the sample of the name is open.
 pub fn pass_step(
@@ -54,17 +54,7 @@ pub fn pass_step(
     }
 }
 
-// Whether the place of a give-up is open after it.
-fn still_open(g: GivenUp, was: bool) -> bool
-    ensures { λ r. ⌜ r ≡ stillOpen g was ⌝ }
-{
-    match g {
-        GivenUp::Freed => false,
-        GivenUp::Refused(_) => was,
-    }
-}
-
-// Settles a give-up, and counts its place.
+// Settles a give-up, and counts its place: behind 1 it is free, or there was none.
 pub fn yield_step(
     table: usize,
     at: usize,
@@ -92,6 +82,6 @@ pub fn yield_step(
         &mut marks[mark..mark + MARKS_EACH],
         who.time,
     );
-    tally::count(marks, who.desk, at < m, still_open(g, at < m));
+    tally::count(marks, who.desk, at < m, false);
     g
 }

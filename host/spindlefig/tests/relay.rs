@@ -156,19 +156,35 @@ fn the_stored_counts_stay_where_nothing_is_open_longer_than_the_call() {
             stored_after(&mut relay, desk, time, FIRST);
         }
     }
-    let stays = [6, 2, 4];
-    assert_eq!(stored(&relay), stays);
-    assert_eq!(stored_after(&mut relay, 0, 6, FIRST), stays);
-    assert_eq!(stored_after(&mut relay, 1, 6, FIRST), stays);
-    assert_eq!(stored_after(&mut relay, 2, 6, FIRST), stays);
-    assert_eq!(stored_after(&mut relay, 0, 5, ALONE), stays);
+    let refused = [
+        (0, 6, FIRST, Refusal::Six),
+        (1, 6, FIRST, Refusal::Common),
+        (2, 6, FIRST, Refusal::Desk),
+        (0, 5, ALONE, Refusal::Conflict),
+        (1, 8, SPOILED, Refusal::Common),
+    ];
+    for (desk, time, unit, refusal) in refused {
+        let answer = relay.receive(desk, time, unit, &mut [0; OUTPUT]);
+        assert_eq!(answer.outcome, Outcome::Refused(refusal));
+        assert_eq!(stored(&relay), [6, 2, 4]);
+    }
     assert_eq!(relay.give_up(1, 6), Err(Refusal::NotOpen));
-    assert_eq!(stored(&relay), stays);
-    assert_eq!(relay.give_up(1, 1), Ok(()));
-    let stays = [6, 1, 4];
-    assert_eq!(stored_after(&mut relay, 1, 7, ALONE), stays);
-    assert_eq!(stored_after(&mut relay, 1, 8, SPOILED), stays);
-    assert_eq!(stored_after(&mut relay, 1, 9, HI), stays);
+    assert_eq!(stored(&relay), [6, 2, 4]);
+}
+
+#[test]
+fn the_stored_counts_stay_where_a_sample_opens_and_ends_in_one_call() {
+    let mut relay = Relay::set_up(2).unwrap();
+    let open = stored_after(&mut relay, 1, 1, FIRST);
+    let alone = relay.receive(1, 7, ALONE, &mut [0; OUTPUT]);
+    assert!(matches!(alone.outcome, Outcome::Joined(_)));
+    assert_eq!(stored(&relay), open);
+    let spoiled = relay.receive(1, 8, SPOILED, &mut [0; OUTPUT]);
+    assert_eq!(spoiled.outcome, Outcome::Refused(Refusal::Spoiled));
+    assert_eq!(stored(&relay), open);
+    let whole = relay.receive(1, 9, HI, &mut [0; OUTPUT]);
+    assert!(matches!(whole.outcome, Outcome::Whole(_)));
+    assert_eq!(stored(&relay), open);
 }
 
 #[test]

@@ -1,4 +1,5 @@
--- `takes::step` meets its contract: a gate that is shut leaves all as it was; else the desk takes the part, and its place is counted. Assumes nothing.
+-- `takes::step` meets its contract: a gate that is shut leaves all as it was; else the desk takes the part, and its place is counted.
+-- Assumes nothing.
 use Prim.Native.Nat.{ℕ}
 use native.Mathlib.Omega.{arith}
 use mathlib.Core.Path.{refl, ap, _∙_}
@@ -56,6 +57,11 @@ asked c κs =
     let told = c .before .before .before .before .before .before .before .before .before .before .before .before .before in
     told .before .before .before .before .before .before .before .before .before .before .before .before .pre
 
+counts : tie.Need-count-requires
+counts c κs =
+    let took = c .before .before .before .before .before .before .before .before in
+    desk-few (room (took .before .before .before .before .before .before .before .before .before .before .before .before .before .before) .0)
+
 -- what came back of the marks is as long as they were
 long : tie.Need-same-length-5
 long c = omega (arith, c .before .marks2 .given, c .before .before .before .before .before .before .before .before .marks .given)
@@ -85,7 +91,7 @@ step-spec =
     (λ c. search needs)
     (λ c. mark-within (room (c .before .before .before .before .before .before .before .before .before .before .before) .0))
     asked
-    (λ c κs. desk-few (room (c .before .before .before .before .before .before .before .before .before .before .before .before .before .before .before .before .before .before .before .before .before .before) .0))
+    counts
     (λ c. search needs)
     (λ c. search needs)
     (λ c. search needs)

@@ -44,7 +44,7 @@ returns-3 : tie.Need-returns-3
 unfolding _<?_
 returns-3 c = λ p o.
     let counted = c .before .before in
-    let gave = counted .before .before .before .before .before .before .before in
+    let gave = counted .before .before .before .before .before .before in
     let enough = gave .before .before .before .before .before in
     let known = enough .before .before in
     let a = known .before .before .before .before .before .before .args in
@@ -53,7 +53,7 @@ returns-3 c = λ p o.
     let k = enough .before .lacks-three .ensures
     ∙ ap (λ (n : ℕ). lacksThree n (a .table) (length (now (a .rows))) (length (now (a .marks)))) e in
     yield-through (a .table) p (now (a .rows)) (now (a .marks)) (a .who) _ f (known .if1 .left) _ k (enough .if2 .left) _ _ _ _
-    (gave .give-up .ensures p [] [] o) _ _ o (counted .before .still-open .ensures) _ (counted .count .ensures)
+    (gave .give-up .ensures p [] [] o) _ o _ (counted .count .ensures)
 
 pub yield-step-spec : {M : Type 1} → statement M
 yield-step-spec =
@@ -80,8 +80,7 @@ yield-step-spec =
     (λ c. search needs)
     (λ c. mark-within (room (c .before .before .before)))
     (λ c κs. search needs)
-    (λ c κs. search needs)
-    (λ c κs. desk-few (room (c .before .before .before .before .before .before .before .before .before .before .before)))
+    (λ c κs. desk-few (room (c .before .before .before .before .before .before .before .before .before .before)))
     (λ c. search needs)
     (λ c. search needs)
     returns-3)
