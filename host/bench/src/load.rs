@@ -122,6 +122,17 @@ fn whole(text: &str, len: usize, desks: usize, full: bool) -> Load {
     load(name, desks, full, round, 1)
 }
 
+fn of_desk_0(units: Vec<Vec<u8>>) -> Vec<Call> {
+    units
+        .into_iter()
+        .map(|unit| Call {
+            desk: 0,
+            after: 0,
+            unit,
+        })
+        .collect()
+}
+
 fn parts(text: &str, count: usize, backwards: bool, desks: usize, full: bool) -> Load {
     let len = 900;
     let mut units = payloads(text, len, len / count + 10);
@@ -131,28 +142,13 @@ fn parts(text: &str, count: usize, backwards: bool, desks: usize, full: bool) ->
         units.reverse();
         way = "backwards";
     }
-    let round = units
-        .into_iter()
-        .map(|unit| Call {
-            desk: 0,
-            after: 0,
-            unit,
-        })
-        .collect();
     let name = format!("{count} parts {way}{}", mark(text));
-    load(name, desks, full, round, 1)
+    load(name, desks, full, of_desk_0(units), 1)
 }
 
 /// Short samples in two parts, of desk 0 while it has so many others open: every second unit opens one.
 fn short_parts(open: usize, desks: usize) -> Load {
-    let round = payloads(ASCII, 8, 14)
-        .into_iter()
-        .map(|unit| Call {
-            desk: 0,
-            after: 0,
-            unit,
-        })
-        .collect();
+    let round = of_desk_0(payloads(ASCII, 8, 14));
     let name = format!("short parts at {open} open");
     let mut load = load(name, desks, open > 0, round, 1);
     if open > 0 {
