@@ -220,12 +220,6 @@ case-stored =
     ∷ at 0 3 (0x03 ∷ 0x00 ∷ 0x07 ∷ 0x22 ∷ 0x00 ∷ 0x00 ∷ 0x64 ∷ 0xFF ∷ []) ∷ give-up 0 2 ∷ []))
     (two 0 0 0 ∷ two 0 1 0 ∷ two 0 2 0 ∷ two 1 3 0 ∷ two 0 2 0 ∷ two 0 2 0 ∷ two 0 2 0 ∷ two 1 3 0 ∷ two 0 2 0 ∷ two 0 1 0 ∷ [])
 
--- case 10, whose refusals 8 and 9 count for nothing
-abbrev case-stored-10 : Case
-case-stored-10 =
-    stores (opens 0 (1 ∷ 2 ∷ 3 ∷ 4 ∷ 5 ∷ 6 ∷ 7 ∷ []) ++ opens 1 (1 ∷ 2 ∷ 3 ∷ []))
-    (two 0 0 0 ∷ two 0 1 0 ∷ two 0 2 0 ∷ two 1 3 0 ∷ two 2 4 0 ∷ two 3 5 0 ∷ two 4 6 0 ∷ two 4 6 0 ∷ two 4 6 1 ∷ two 4 6 2 ∷ two 4 6 2 ∷ [])
-
 -- ---- the cases of document 01, and those of requests 1 and 2
 abbrev pub cases-01 : List Case
 cases-01 =
@@ -240,7 +234,7 @@ abbrev pub cases-17 : List Case
 cases-17 = case-17-long ∷ case-17-halves ∷ case-17-late ∷ case-17-other ∷ case-17-modifiers ∷ []
 
 abbrev pub cases-stored : List Case
-cases-stored = case-stored ∷ case-stored-10 ∷ []
+cases-stored = case-stored ∷ []
 
 -- ---- what the rules compute to in the memory that set-up makes
 abbrev gets : (desks : ℕ) → List Call → List Got
@@ -323,10 +317,7 @@ each-holds = (
       ),
     ),
   ),
-  (
-    (inl refl, (inl refl, (inl refl, (inl refl, (inl refl, tt))))),
-    (inl refl, (inl refl, tt)),
-  ),
+  ((inl refl, (inl refl, (inl refl, (inl refl, (inl refl, tt))))), (inl refl, tt)),
 )
 
 pub worked : All cases-01 × (All cases-17 × All cases-stored)
