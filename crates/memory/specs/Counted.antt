@@ -1,5 +1,5 @@
--- The stored numbers: what a call is about was open where the desk's sample was; a place that stays as it was leaves the numbers.
--- Assumes nothing.
+-- The stored numbers: how one steps; that a place which stays as it was leaves them; and of the place that a call is about, whether it was
+-- open and is. Assumes nothing.
 use Prim.Native.Nat.{ℕ, _+_, _-_, _≤_, _<_}
 use native.Mathlib.Omega.{arith}
 use mathlib.Core.Path.{_≡_, refl, sym, ap, _∙_}

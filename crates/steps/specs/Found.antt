@@ -115,17 +115,17 @@ module _ (desk time m : ℕ) (l : List Place) (fits : m ≤ length l) where
     was = before-low k ∙ sym (was-none h);
     is =
         ap (λ (y : Place). y .used) (getD-set-same l low _ closed (omega arith))
-        ∙ ap (λ (b : Bool). (b ⇒ p ⁏ p .used ⇒ p ⁏ beforeAt low l) .used) (before-low k) ∙ open-in (p .used) refl (stands-new h p);
+        ∙ ap (λ (b : Bool). (b ⇒ p ⁏ p .used ⇒ p ⁏ beforeAt low l) .used) (before-low k) ∙ open-in (p .used) (stands-new h p);
   }
     where
       put : (b : Bool) → set l low (b ⇒ p ⁏ beforeAt low l) ≡ set (take m l) (b ⇒ low ⁏ m) p ++ drop m l
       put true = set-front m low p l fits k
       put false = set-getD l low closed ∙ set-none m m p l fits (omega arith)
 
-      open-in : (b : Bool) → p .used ≡ b → standsAt desk time p (take m l) ≡ (b ⇒ low ⁏ m)
+      open-in : (b : Bool) → standsAt desk time p (take m l) ≡ (b ⇒ low ⁏ m)
           → (b ⇒ p ⁏ beforeAt low l) .used ≡ isOpen desk time p (take m l)
-      open-in true u q = sym (is-open desk time (take m l) p (omega (arith, q, long)))
-      open-in false u q = before-low k ∙ sym (is-none desk time (take m l) p (omega (arith, q, long)))
+      open-in true q = sym (is-open desk time (take m l) p (omega (arith, q, long)))
+      open-in false q = before-low k ∙ sym (is-none desk time (take m l) p (omega (arith, q, long)))
 
   -- where it is kept in none, it is not to be kept, or there is none
   goes-none : m ≤ at → (p : Place) → (p .used ≡ true → m ≤ low) → Goes (length l) p

@@ -37,7 +37,7 @@ fn step(is: bool, k: u32) -> u32
     octets::less(k as usize, 1) as u32
 }
 
-// How many the desk has open with this one: so many without it where it is open now, so many with it where it was.
+// How many the desk has open with this one, which the number does not count yet where it is open now, and counts where it was.
 fn with_it(is: bool, opens: u32) -> usize
     ensures { λ r. ⌜ r ≡ opens + bit is ⌝ }
 {
