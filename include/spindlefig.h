@@ -5,13 +5,17 @@
  *
  * A slice goes as a pointer and a length, counted in elements: so much memory is there, the pointer is not null even where the length
  * is 0, and slices of one call do not overlap. Places are cleared to zeros before set-up and then left to the relay. This is C's share;
- * beyond it nothing has to be checked beforehand: what is wrong is refused by its number, 1 to 17, and a row that is too short gets
+ * beyond it nothing has to be checked beforehand: what is wrong is refused by its number, 1 to 18, and a row that is too short gets
  * what fits. What each call answers and leaves is proved in crates/export, for every input.
  *
  * The marks have a head, in which the relay keeps what it knows of itself: the number of desks, which set-up puts there, and how many
  * samples are open, which set-up makes 0 and every call keeps as a count over the places would find it. A caller may read these numbers
  * there (SPINDLEFIG_MARKS_..) and must not write them. Where another number of desks than 1 to 8 stands there, or what is lent is too
  * short for it, the call is refused by 1 and leaves the memory as it stood.
+ *
+ * The running time of a payload is known or unknown. It starts as the packet's timestamp, which is known. SDUR 0 is a duration that is
+ * not known yet: after a TYPE 1 unit or a last part (THIS = TOTAL) with SDUR 0 that 1 to 4 and 17 let through, the time is unknown, and
+ * stays so to the end of the payload. No number stands for that, since every 32-bit number is a time: `known` goes beside the time.
  */
 #ifndef SPINDLEFIG_H
 #define SPINDLEFIG_H
@@ -46,7 +50,7 @@ enum {
     SPINDLEFIG_MARKS_OPEN = 2    /* from here on, for each desk 0 to 7, how many samples it has open; 0 for a desk that is not there */
 };
 
-/* ---- Kinds of outcomes, and the numbers that follow used, next and kind in the row of an answer. ---- */
+/* ---- Kinds of outcomes, and the numbers that follow used, known, next and kind in the row of an answer. ---- */
 enum {
     SPINDLEFIG_END = 0,       /* the rest was empty */
     SPINDLEFIG_WHOLE = 1,     /* time, u, sidx, sdur, string length, sample length; the sample stands at the front of the output */
@@ -55,7 +59,7 @@ enum {
     SPINDLEFIG_REPEAT = 4,
     SPINDLEFIG_DESCRIBED = 5,
     SPINDLEFIG_SKIPPED = 6,   /* the TYPE */
-    SPINDLEFIG_REFUSED = 7    /* the refusal: 1 to 10, or 17 where the string is not well-formed */
+    SPINDLEFIG_REFUSED = 7    /* the refusal: 1 to 10, 17 where the string is not well-formed, or 18 at an unknown time */
 };
 
 /* ---- Kinds of what stands at a place of the modifiers, and the number that follows the next place and the kind in its row. ---- */
@@ -72,21 +76,24 @@ size_t spindlefig_set_up(size_t n,
                          uint32_t *marks, size_t marks_len,
                          uint8_t *stores, size_t stores_len);
 
-/* Takes the unit at the front of the rest. The row gets: bytes used, next running time, kind, and the numbers of the kind.
- * Answers the bytes used: hand `next` back as the time, and go on so many bytes further, until no bytes are used. That is at the end of
- * the payload, and for refusals 1 and 2, which no later call of the same payload would escape. The string of a TYPE 1 unit, and the data
- * of a TYPE 2 unit, have to be well-formed by themselves, UTF-8 or UTF-16 big-endian as U says: else 17, which adds no time. A string
- * that is handed out is well-formed too. */
+/* Takes the unit at the front of the rest. Where `known` is 0 the running time is unknown, and `time` is not looked at; else it is
+ * `time`. The row gets: bytes used, known, next, kind, and the numbers of the kind. Known is 1 where the next running time is next, and 0
+ * where it is unknown; next is 0 then.
+ * Answers the bytes used: hand known and next back as `known` and `time`, and go on so many bytes further, until no bytes are used. That
+ * is at the end of the payload, and for refusals 1 and 2, which no later call of the same payload would escape. The string of a TYPE 1
+ * unit, and the data of a TYPE 2 unit, have to be well-formed by themselves, UTF-8 or UTF-16 big-endian as U says: else 17, which adds no
+ * time. A string that is handed out is well-formed too. At an unknown time, units of TYPE 1 to 4 that 1 to 4 and 17 let through are 18,
+ * which uses their bytes and changes nothing; all else is answered as ever, and the time stays unknown. */
 size_t spindlefig_receive(spindlefig_place *places, size_t places_len,
                           uint32_t *rows, size_t rows_len,
                           uint32_t *marks, size_t marks_len,
                           uint8_t *stores, size_t stores_len,
-                          size_t desk, uint32_t time,
+                          size_t desk, size_t known, uint32_t time,
                           const uint8_t *rest, size_t rest_len,
                           uint8_t *out, size_t out_len,
                           uint64_t *row, size_t row_len);
 
-/* Frees an open sample and marks its time finished. Answers 0, or 1 or 11. */
+/* Frees the open sample of a desk and a time, which is known, and marks the time finished. Answers 0, or 1 or 11. */
 size_t spindlefig_give_up(spindlefig_place *places, size_t places_len,
                           uint32_t *rows, size_t rows_len,
                           uint32_t *marks, size_t marks_len,

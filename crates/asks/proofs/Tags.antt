@@ -7,8 +7,8 @@ use denote.Enum.Declared.{tagOf}
 use Rattle.unit.specs.declared.Unit.{Unit}
 use Rattle.unit.specs.declared.Unit.the-variants.{End, Skipped, Refused, Whole, Part, Description}
 use Rattle.unit.proofs.Unit as U′
-use Rattle.desk.specs.Desk.{isPart}
-use Rattle.asks.specs.Settled.{hasPlace, noPart, partOf}
+use Rattle.desk.specs.Desk.{isText, isPart}
+use Rattle.asks.specs.Settled.{noPart, partOf}
 
 pub no-part : (x : Unit) → OneOf (0 ∷ 1 ∷ 2 ∷ 3 ∷ 5 ∷ []) (tagOf U′.the-type x) → isPart x ≡ false
 no-part End h = refl
@@ -27,7 +27,7 @@ none-of (Part x) h = absurd (miss (0 ∷ 1 ∷ 2 ∷ 3 ∷ 5 ∷ []) 4 tt h)
 none-of (Description w) h = refl
 
 -- it is no whole sample
-pub part-only : (x : Unit) → OneOf (0 ∷ 1 ∷ 2 ∷ 4 ∷ 5 ∷ []) (tagOf U′.the-type x) → isPart x ≡ hasPlace x
+pub part-only : (x : Unit) → OneOf (0 ∷ 1 ∷ 2 ∷ 4 ∷ 5 ∷ []) (tagOf U′.the-type x) → isPart x ≡ isText x
 part-only End h = refl
 part-only (Skipped t) h = refl
 part-only (Refused r) h = refl

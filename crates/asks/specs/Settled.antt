@@ -1,11 +1,12 @@
 -- One call's work for one desk where its sample stands in a table: what the call finds there, and what it leaves. Assumes nothing.
 use Prim.Native.Nat.{ℕ}
-use mathlib.Core.Bool.{Bool, true, false}
+use mathlib.Core.Bool.{Bool}
 use mathlib.Core.List.{List}
 use denote.Ref.{RefT, now}
 use denote.Triple.Both.{Both}
 use Rattle.laws.specs.Rows.{_⇒_⁏_}
 use Rattle.paper.specs.declared.Refusal.the-variants as R
+use Rattle.paper.specs.declared.Time.{Time}
 use Rattle.paper.specs.declared.Outcome.{Outcome}
 use Rattle.paper.specs.declared.Outcome.the-variants as O
 use Rattle.unit.specs.declared.Part as P
@@ -17,7 +18,7 @@ use Rattle.sample.specs.declared.Place.{Place}
 use Rattle.sample.specs.Head.{whole}
 use Rattle.sample.specs.Place.{closed}
 use Rattle.desk.specs.declared.Shares.{Shares}
-use Rattle.desk.specs.Desk.{Own, After, own, says, stay, six, usedUp, partTaken, taken, isPart}
+use Rattle.desk.specs.Desk.{Own, After, own, says, stay, six, usedUp, partAt, taken, isPart}
 use Rattle.asks.specs.declared.Arrival.{Arrival}
 use Rattle.asks.specs.declared.Settled.{Settled}
 use Rattle.asks.specs.declared.Bar.{Bar}
@@ -33,7 +34,7 @@ before h kinds starts lens bytes = whole h (now (kinds .entry)) (now (starts .en
 abbrev pub after : Head → (kinds starts lens bytes : Array) → Place
 after h kinds starts lens bytes = whole h (now (kinds .exit)) (now (starts .exit)) (now (lens .exit)) (now (bytes .exit))
 
-abbrev pub settled : Head → (used next : ℕ) → Outcome → Settled
+abbrev pub settled : Head → (used : ℕ) → (next : Time) → Outcome → Settled
 settled h used next o = record { head = h; answer = says used next o }
 
 -- ---- a place of the table, and the desk's sample
@@ -50,8 +51,8 @@ laidIn before a =
     record { own = own (laid before (a .own .place)) (a .own .row) (a .own .marks) (a .own .store) (a .own .out); answer = a .answer }
 
 -- ---- a part of a sample that is not open
-abbrev pub opening : Shares → (row marks store out : List ℕ) → (desk time : ℕ) → Arrival → List ℕ → After
-opening h row marks store out desk time x d = partTaken h (own closed row marks store out) desk time (x .used) (x .part) d
+abbrev pub opening : Shares → (row marks store out : List ℕ) → (desk : ℕ) → Time → Arrival → List ℕ → After
+opening h row marks store out desk t x d = partAt h (own closed row marks store out) desk t (x .used) (x .part) d
 
 -- what bars it, in the order of refusals: 6, 5, 8, 9; it is no repeat, and conflicts with nothing
 unfoldable pub barred : (late over : Bool) → Shares → Bar
@@ -63,15 +64,6 @@ barred late over h =
     ⁏ B.Free
 
 -- ---- a unit that was read
--- TYPE 1 to 4: it names a sample
-abbrev pub hasPlace : Unit → Bool
-hasPlace (Whole w) = true
-hasPlace (Part x) = true
-hasPlace End = false
-hasPlace (Skipped t) = false
-hasPlace (Refused r) = false
-hasPlace (Description w) = false
-
 abbrev pub noPart : P.Part
 noPart = record { kind = 0; total = 0; this = 0; sdur = 0; u = 0; sidx = 0; slen = 0; start = 0; len = 0 }
 
@@ -90,5 +82,5 @@ arrivalOf r = record { used = r .used; part = partOf (r .unit) }
 abbrev pub unasked : Shares
 unasked = record { opens = 0; common = 0; desks = 0 }
 
-unfoldable pub passed : Own → (time : ℕ) → Reading → (rest : List ℕ) → After
-passed s time r rest = isPart (r .unit) ⇒ stay s 0 time O.End ⁏ taken unasked s 0 time (r .used) rest (r .unit)
+unfoldable pub passed : Own → Time → Reading → (rest : List ℕ) → After
+passed s t r rest = isPart (r .unit) ⇒ stay s 0 t O.End ⁏ taken unasked s 0 t (r .used) rest (r .unit)

@@ -3,6 +3,7 @@ use desk::Shares;
 use paper::Answer;
 use paper::Outcome;
 use paper::Refusal;
+use paper::Time;
 use paper::limits::OPEN_MOST;
 use paper::limits::OWN_PLACES;
 use sample::Head;
@@ -13,8 +14,8 @@ ghost use mathlib.Core.Path.{_≡_};
 ghost use Rattle.finished.specs.Times.{late};
 ghost use Rattle.sample.specs.Head.{alone};
 ghost use Rattle.sample.specs.Place.{closed};
-ghost use Rattle.desk.specs.Desk.{inUse, says, isPart, later, laterPart, conflicts, six, usedUp};
-ghost use Rattle.asks.specs.Settled.{settled, barred, hasPlace, arrivalOf};
+ghost use Rattle.desk.specs.Desk.{inUse, says, isText, isPart, later, laterPart, conflicts, six, usedUp};
+ghost use Rattle.asks.specs.Settled.{settled, barred, arrivalOf};
 
 // The numbers of the sample after the call, and the answer.
 pub struct Settled {
@@ -34,7 +35,7 @@ pub enum Bar {
     Refused(Refusal),
 }
 
-pub fn said(head: Head, used: usize, next: u32, outcome: Outcome) -> Settled
+pub fn said(head: Head, used: usize, next: Time, outcome: Outcome) -> Settled
     ensures { λ r. ⌜ r ≡ settled head used next outcome ⌝ }
 {
     Settled {
@@ -47,7 +48,7 @@ pub fn said(head: Head, used: usize, next: u32, outcome: Outcome) -> Settled
     }
 }
 
-pub fn says(used: usize, next: u32, outcome: Outcome) -> Answer
+pub fn says(used: usize, next: Time, outcome: Outcome) -> Answer
     ensures { λ r. ⌜ r ≡ says used next outcome ⌝ }
 {
     Answer {
@@ -63,19 +64,22 @@ pub fn is_late(row: &[u32], marks: &[u32], time: u32) -> bool
     finished::is_late(row, octets::word(marks, 0) as usize, time)
 }
 
-pub fn add_time(time: u32, sdur: usize) -> u32
+pub fn add_time(time: u32, sdur: usize) -> Time
     ensures { λ r. ⌜ r ≡ later time sdur ⌝ }
 {
-    std::num::wrapping_add_u32(time, (sdur % 4294967296) as u32)
+    if sdur == 0 {
+        return Time::Unknown;
+    }
+    Time::Known(std::num::wrapping_add_u32(time, (sdur % 4294967296) as u32))
 }
 
-pub fn next_time(time: u32, x: Part) -> u32
+pub fn next_time(time: u32, x: Part) -> Time
     ensures { λ r. ⌜ r ≡ laterPart time x ⌝ }
 {
     if x.this == x.total {
         return add_time(time, x.sdur);
     }
-    time
+    Time::Known(time)
 }
 
 pub fn does_conflict(q: Head, x: Part) -> bool
@@ -145,8 +149,8 @@ pub fn is_part(r: Reading) -> bool
 }
 
 // Whether the unit names a sample: TYPE 1 to 4.
-pub fn has_place(r: Reading) -> bool
-    ensures { λ b. ⌜ b ≡ hasPlace (r .unit) ⌝ }
+pub fn is_text(r: Reading) -> bool
+    ensures { λ b. ⌜ b ≡ isText (r .unit) ⌝ }
 {
     let x = r.unit;
     match x {

@@ -8,6 +8,7 @@ use Rattle.laws.specs.Rows.{_⇒_⁏_, yes, lt, no}
 use Rattle.paper.specs.Limits.{sampleMost, partsMost}
 use Rattle.paper.specs.declared.Refusal.{Refusal}
 use Rattle.paper.specs.declared.Refusal.the-variants as R
+use Rattle.paper.specs.declared.Time.{Time}
 use Rattle.paper.specs.declared.Outcome.the-variants as O
 use Rattle.paper.specs.declared.Answer.{Answer}
 use Rattle.unit.specs.declared.Part.{Part}
@@ -64,7 +65,7 @@ module _ (desk time : ℕ) (x : Part) where
   over-alone n e m = rw e
 
   -- what is not complete with one part is kept
-  kept-new : (s : Own) (used next : ℕ) (d : List ℕ) → 1 < x .total
+  kept-new : (s : Own) (used : ℕ) (next : Time) (d : List ℕ) → 1 < x .total
       → left (answering (kept (opened desk time x) x d) used next (O.Kept (missing (kept (opened desk time x) x d))))
       (s .row) (s .marks) (s .store) (s .out)
       ≡ completed s time used next (kept (opened desk time x) x d)
@@ -75,7 +76,7 @@ module _ (desk time : ℕ) (x : Part) where
   unfolding bare
   used-new d = ap (λ (n : Name). n .used) (keep-named (opened desk time x) x d)
 
-module _ (h : Shares) (row marks store out : List ℕ) (desk time used next : ℕ) (x : Part) (d : List ℕ) where
+module _ (h : Shares) (row marks store out : List ℕ) (desk time used : ℕ) (next : Time) (x : Part) (d : List ℕ) where
   abbrev s : Own
   s = own closed row marks store out
 

@@ -3,6 +3,7 @@ use asks::Bar;
 use asks::Settled;
 use desk::Shares;
 use paper::Outcome;
+use paper::Time;
 use paper::limits::PARTS_MOST;
 use paper::limits::SAMPLE_MOST;
 use sample::Head;
@@ -29,7 +30,7 @@ pub fn open(
     marks: &[u32],
     time: u32,
     used: usize,
-    next: u32,
+    next: Time,
     x: Part,
     d: &[u8],
 ) -> Settled

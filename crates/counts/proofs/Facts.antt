@@ -9,9 +9,9 @@ use lib.Seq.{length-take-le}
 use Rattle.laws.specs.Rows.{_⇒_⁏_, _<?_, _=?_, ge, eq-of}
 use Rattle.laws.specs.Table.{bit, seek, count}
 use Rattle.laws.specs.Region.{take-min}
-use Rattle.paper.specs.declared.Name.{Name}
+use Rattle.paper.specs.declared.Sender.{Sender}
 use Rattle.sample.specs.declared.Place.{Place}
-use Rattle.memory.specs.Table.{isAt}
+use Rattle.memory.specs.Table.{isTime, isAt}
 use Rattle.table.specs.Table.{bears, holds}
 use Rattle.table.specs.Turn.{count-le}
 use Rattle.table.proofs.Facts.{fails}
@@ -30,7 +30,7 @@ none-so p q less (x ∷ xs) e = go (q x) refl e (none-so p q less xs)
     go true f e ih = absurd (omega arith)
     go false f e ih = rw (less x f) (ap suc (ih (omega arith)))
 
-module _ (ys : List Place) (m : ℕ) (who : Name) where
+module _ (ys : List Place) (m : ℕ) (who : Sender) where
   abbrev sought : Place → Bool
   sought = isAt (who .desk) (who .time)
 
@@ -47,6 +47,6 @@ module _ (ys : List Place) (m : ℕ) (who : Name) where
 
       go : (b : Bool) → (c =? 0) ≡ b → k ≡ (b ⇒ 0 ⁏ n) → (seek sought (take k ys) <? k) ≡ holds sought (take m ys)
       go true f e =
-          let none : seek sought (take n ys) ≡ length (take n ys) = none-so sought (bears who) (λ y h. sym (fails (y .used) (y .desk =? who .desk) (y .time =? who .time) h)) (take n ys) (sym ec ∙ eq-of c 0 f) in
+          let none : seek sought (take n ys) ≡ length (take n ys) = none-so sought (bears who) (λ y h. sym (fails (y .used) (y .desk =? who .desk) (isTime (who .time) (y .time)) h)) (take n ys) (sym ec ∙ eq-of c 0 f) in
           rw (e, sym same) (sym (ge (seek sought (take n ys)) (length (take n ys)) (omega (arith, none))))
       go false f e = rw (e, sym same, long)

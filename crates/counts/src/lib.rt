@@ -1,26 +1,25 @@
 // Whether a sample is open among the first m places of the lent table: it is searched only where a place bears its time.
-use paper::Name;
+use paper::Sender;
 use sample::Place;
 ghost use mathlib.Core.Path.{_≡_};
 ghost use lib.ListN.{take};
 ghost use Rattle.laws.specs.Rows.{_⇒_⁏_, _=?_};
 ghost use Rattle.laws.specs.Table.{bit, count};
-ghost use Rattle.memory.specs.Table.{isAt};
+ghost use Rattle.memory.specs.Table.{isTime, isAt};
 ghost use Rattle.table.specs.Table.{bears, holds};
 
-// One where a place bears the time of the name, used or not.
-fn one(when: u32, who: Name) -> usize
-    ensures { λ r. ⌜ r ≡ bit (when =? who .time) ⌝ }
+// One where a place bears the sender's time, used or not.
+fn one(when: u32, who: Sender) -> usize
+    ensures { λ r. ⌜ r ≡ bit (isTime (who .time) when) ⌝ }
 {
-    let time = who.time;
-    if when == time {
+    if finds::bears(when, who) {
         return 1;
     }
     0
 }
 
 // How many of the first m places bear the time. No turn is left early, so that the compiler takes several places at once.
-fn count(t: &[Place], m: usize, who: Name) -> usize
+fn count(t: &[Place], m: usize, who: Sender) -> usize
     ensures { λ r. ⌜ r ≡ count (bears who) (take m (now (t .entry))) ⌝ }
 {
     let n = octets::least(t.len(), m);
@@ -44,8 +43,8 @@ fn near(c: usize, m: usize) -> usize
     m
 }
 
-// Whether the sample of a name is open among the first m places. Most often none bears the time, and then none is searched.
-pub fn is_open(t: &[Place], m: usize, who: Name) -> bool
+// Whether the sender's sample is open among the first m places. Most often none bears the time, and then none is searched.
+pub fn is_open(t: &[Place], m: usize, who: Sender) -> bool
     ensures { λ r. ⌜ r ≡ holds (isAt (who .desk) (who .time)) (take m (now (t .entry))) ⌝ }
 {
     let n = octets::least(t.len(), m);

@@ -7,6 +7,7 @@ use mathlib.Core.List.{List, []}
 use lib.ListN.{set}
 use Rattle.laws.specs.Exactly.{Determines, determined, equation, determined-by-two}
 use Rattle.laws.specs.Rows.{_⇒_⁏_}
+use Rattle.paper.specs.declared.Time.{Time}
 use Rattle.paper.specs.declared.Answer.{Answer}
 use Rattle.paper.specs.declared.Outcome.{Outcome}
 use Rattle.unit.specs.declared.Part.{Part}
@@ -20,12 +21,13 @@ use Rattle.sample.specs.Head.{headOf, alone}
 use Rattle.sample.specs.Place.{bare, closed, opened}
 use Rattle.desk.specs.declared.Shares.{Shares}
 use Rattle.desk.specs.declared.GivenUp.{GivenUp}
-use Rattle.desk.specs.Desk.{After, Given, own, says, turn, left, isPart, inUse, later, laterPart, conflicts, wholeTaken, completed, joining}
-use Rattle.desk.specs.Desk.{partTaken, descriptionTaken, freed, givenUp}
+use Rattle.desk.specs.Desk.{After, Given, own, says, turn, left, isText, isPart, inUse, later, laterPart, conflicts, wholeTaken}
+use Rattle.desk.specs.Desk.{completed, joining}
+use Rattle.desk.specs.Desk.{partAt, descriptionTaken, freed, givenUp}
 use Rattle.asks.specs.declared.Arrival.{Arrival}
 use Rattle.asks.specs.declared.Bar.{Bar}
 use Rattle.asks.specs.declared.Settled.{Settled}
-use Rattle.asks.specs.Settled.{settled, openIn, laidIn, opening, barred, hasPlace, arrivalOf, passed}
+use Rattle.asks.specs.Settled.{settled, openIn, laidIn, opening, barred, arrivalOf, passed}
 use Rattle.determined.specs.Leaves.{Arrays, placeOf, arraysOf}
 
 -- a place that is used or not, as told
@@ -50,19 +52,19 @@ abbrev turnedOf : After → Turned
 turnedOf z = (sample (z .own .place) (z .answer), z .own .row, z .own .marks, z .own .out)
 
 -- ---- asks
-pub asks-said : (head : Head) (used next : ℕ) (o : Outcome) → Determines (λ (r : Settled). r ≡ settled head used next o)
+pub asks-said : (head : Head) (used : ℕ) (next : Time) (o : Outcome) → Determines (λ (r : Settled). r ≡ settled head used next o)
 asks-said head used next o = equation (settled head used next o)
 
-pub asks-says : (used next : ℕ) (o : Outcome) → Determines (λ (r : Answer). r ≡ says used next o)
+pub asks-says : (used : ℕ) (next : Time) (o : Outcome) → Determines (λ (r : Answer). r ≡ says used next o)
 asks-says used next o = equation (says used next o)
 
 pub asks-is-late : (row marks : List ℕ) (time : ℕ) → Determines (λ (r : Bool). r ≡ late row (inUse marks) time)
 asks-is-late row marks time = equation (late row (inUse marks) time)
 
-pub asks-add-time : (time sdur : ℕ) → Determines (λ (r : ℕ). r ≡ later time sdur)
+pub asks-add-time : (time sdur : ℕ) → Determines (λ (r : Time). r ≡ later time sdur)
 asks-add-time time sdur = equation (later time sdur)
 
-pub asks-next-time : (time : ℕ) (x : Part) → Determines (λ (r : ℕ). r ≡ laterPart time x)
+pub asks-next-time : (time : ℕ) (x : Part) → Determines (λ (r : Time). r ≡ laterPart time x)
 asks-next-time time x = equation (laterPart time x)
 
 pub asks-does-conflict : (q : Head) (x : Part) → Determines (λ (r : Bool). r ≡ conflicts (alone q) x)
@@ -74,8 +76,8 @@ asks-find-bar late over h = equation (barred late over h)
 pub asks-is-part : (r : Reading) → Determines (λ (b : Bool). b ≡ isPart (r .unit))
 asks-is-part r = equation (isPart (r .unit))
 
-pub asks-has-place : (r : Reading) → Determines (λ (b : Bool). b ≡ hasPlace (r .unit))
-asks-has-place r = equation (hasPlace (r .unit))
+pub asks-is-text : (r : Reading) → Determines (λ (b : Bool). b ≡ isText (r .unit))
+asks-is-text r = equation (isText (r .unit))
 
 pub asks-arrived : (r : Reading) → Determines (λ (x : Arrival). x ≡ arrivalOf r)
 asks-arrived r = equation (arrivalOf r)
@@ -87,7 +89,7 @@ ends-finish row marks time =
     determined-by-two (λ l. l .0) (λ l. l .1) (λ a b. (a, b)) (λ l. refl) (markedRow row (inUse marks) time)
     (set marks 0 (markedUsed (inUse marks)))
 
-pub ends-complete : (q : Head) (l : Arrays) (row marks : List ℕ) (time used next : ℕ) (out : List ℕ)
+pub ends-complete : (q : Head) (l : Arrays) (row marks : List ℕ) (time used : ℕ) (next : Time) (out : List ℕ)
     → Determines (λ (r : Turned). (p : Place) (store : List ℕ)
     → leftOf store r ≡ completed (own p row marks store out) time used next (placeOf q l))
 ends-complete q l row marks time used next out =
@@ -106,7 +108,7 @@ ends-give-up is-open row marks time =
     (givenUp (own (any is-open) row marks [] []) time) r s (a (any is-open) [] [] refl) (b (any is-open) [] [] refl)
 
 -- ---- grows
-pub grows-join : (q : Head) (l : Arrays) (row marks : List ℕ) (time used next : ℕ) (x : Part) (d out : List ℕ)
+pub grows-join : (q : Head) (l : Arrays) (row marks : List ℕ) (time used : ℕ) (next : Time) (x : Part) (d out : List ℕ)
     → Determines (λ (r : Turned). (h : Shares) (store : List ℕ)
     → leftOf store r ≡ joining h (own (placeOf q l) row marks store out) time used next (placeOf q l) x d)
 grows-join q l row marks time used next x d out =
@@ -116,8 +118,8 @@ grows-join q l row marks time used next x d out =
     (a h []) (b h [])
 
 -- ---- begins: row and marks stay, and the output is not lent
-pub begins-open : (h : Shares) (desk : ℕ) (q : Head) (l : Arrays) (row marks : List ℕ) (time used next : ℕ) (x : Part) (d : List ℕ)
-    → Determines (λ (r : Sample). (store out : List ℕ) → leftOf store (r, row, marks, out)
+pub begins-open : (h : Shares) (desk : ℕ) (q : Head) (l : Arrays) (row marks : List ℕ) (time used : ℕ) (next : Time)
+    (x : Part) (d : List ℕ) → Determines (λ (r : Sample). (store out : List ℕ) → leftOf store (r, row, marks, out)
     ≡ laidIn (placeOf q l) (joining h (own closed row marks store out) time used next (opened desk time x) x d))
 begins-open h desk q l row marks time used next x d =
     λ r s a b.
@@ -127,50 +129,51 @@ begins-open h desk q l row marks time used next x d =
 -- ---- singles
 pub singles-take-whole : (is-open : Bool) (row marks : List ℕ) (time used : ℕ) (w : Whole) (d out : List ℕ)
     → Determines (λ (r : Answer × List ℕ × List ℕ × List ℕ). (p : Place) (store : List ℕ) → p .used ≡ is-open
-    → left (turn p (r .0)) (r .1) (r .2) store (r .3) ≡ wholeTaken (own p row marks store out) time used w d)
+    → left (turn p (r .0)) (r .1) (r .2) store (r .3) ≡ wholeTaken (own p row marks store out) time used (later time (w .sdur)) w d)
 unfolding bare
 singles-take-whole is-open row marks time used w d out =
     λ r s a b.
     determined (λ (r : Answer × List ℕ × List ℕ × List ℕ). left (turn (any is-open) (r .0)) (r .1) (r .2) [] (r .3))
     (λ (z : After). (z .answer, z .own .row, z .own .marks, z .own .out)) (λ r. refl)
-    (wholeTaken (own (any is-open) row marks [] out) time used w d) r s (a (any is-open) [] refl) (b (any is-open) [] refl)
+    (wholeTaken (own (any is-open) row marks [] out) time used (later time (w .sdur)) w d) r s
+    (a (any is-open) [] refl) (b (any is-open) [] refl)
 
-pub singles-take-description : (marks store : List ℕ) (time used : ℕ) (w : Description) (d : List ℕ)
+pub singles-take-description : (marks store : List ℕ) (t : Time) (used : ℕ) (w : Description) (d : List ℕ)
     → Determines (λ (r : Answer × List ℕ × List ℕ). (p : Place) (row out : List ℕ)
-    → left (turn p (r .0)) row (r .1) (r .2) out ≡ descriptionTaken (own p row marks store out) time used w d)
-singles-take-description marks store time used w d =
+    → left (turn p (r .0)) row (r .1) (r .2) out ≡ descriptionTaken (own p row marks store out) t used w d)
+singles-take-description marks store t used w d =
     λ r s a b.
     determined (λ (r : Answer × List ℕ × List ℕ). left (turn closed (r .0)) [] (r .1) (r .2) [])
     (λ (z : After). (z .answer, z .own .marks, z .own .store)) (λ r. refl)
-    (descriptionTaken (own closed [] marks store []) time used w d) r s (a closed [] []) (b closed [] [])
+    (descriptionTaken (own closed [] marks store []) t used w d) r s (a closed [] []) (b closed [] [])
 
 -- ---- settle
-pub settle-take-part : (h : Shares) (desk : ℕ) (q : Head) (l : Arrays) (row marks : List ℕ) (time : ℕ) (x : Arrival) (d out : List ℕ)
+pub settle-take-part : (h : Shares) (desk : ℕ) (q : Head) (l : Arrays) (row marks : List ℕ) (t : Time) (x : Arrival) (d out : List ℕ)
     → Determines (λ (r : Turned). (store : List ℕ) → leftOf store r
-    ≡ laidIn (placeOf q l) (partTaken h (own (openIn (placeOf q l)) row marks store out) desk time (x .used) (x .part) d))
-settle-take-part h desk q l row marks time x d out =
+    ≡ laidIn (placeOf q l) (partAt h (own (openIn (placeOf q l)) row marks store out) desk t (x .used) (x .part) d))
+settle-take-part h desk q l row marks t x d out =
     λ r s a b.
     determined (leftOf []) turnedOf (λ r. refl)
-    (laidIn (placeOf q l) (partTaken h (own (openIn (placeOf q l)) row marks [] out) desk time (x .used) (x .part) d)) r s (a []) (b [])
+    (laidIn (placeOf q l) (partAt h (own (openIn (placeOf q l)) row marks [] out) desk t (x .used) (x .part) d)) r s (a []) (b [])
 
-pub settle-lose : (h : Shares) (desk : ℕ) (row marks : List ℕ) (time : ℕ) (x : Arrival) (d out : List ℕ)
+pub settle-lose : (h : Shares) (desk : ℕ) (row marks : List ℕ) (t : Time) (x : Arrival) (d out : List ℕ)
     → Determines (λ (r : Answer × List ℕ × List ℕ × List ℕ). (store : List ℕ)
-    → left (turn (opening h row marks store out desk time x d .own .place) (r .0)) (r .1) (r .2) store (r .3)
-    ≡ opening h row marks store out desk time x d)
-settle-lose h desk row marks time x d out =
+    → left (turn (opening h row marks store out desk t x d .own .place) (r .0)) (r .1) (r .2) store (r .3)
+    ≡ opening h row marks store out desk t x d)
+settle-lose h desk row marks t x d out =
     λ r s a b.
     determined (λ (r : Answer × List ℕ × List ℕ × List ℕ).
-    left (turn (opening h row marks [] out desk time x d .own .place) (r .0)) (r .1) (r .2) [] (r .3))
+    left (turn (opening h row marks [] out desk t x d .own .place) (r .0)) (r .1) (r .2) [] (r .3))
     (λ (z : After). (z .answer, z .own .row, z .own .marks, z .own .out)) (λ r. refl)
-    (opening h row marks [] out desk time x d) r s (a []) (b [])
+    (opening h row marks [] out desk t x d) r s (a []) (b [])
 
 -- ---- others
-pub others-pass : (is-open : Bool) (row marks store : List ℕ) (time : ℕ) (x : Reading) (rest out : List ℕ)
+pub others-pass : (is-open : Bool) (row marks store : List ℕ) (t : Time) (x : Reading) (rest out : List ℕ)
     → Determines (λ (r : Answer × List ℕ × List ℕ × List ℕ × List ℕ). (p : Place) → p .used ≡ is-open
-    → left (turn p (r .0)) (r .1) (r .2) (r .3) (r .4) ≡ passed (own p row marks store out) time x rest)
+    → left (turn p (r .0)) (r .1) (r .2) (r .3) (r .4) ≡ passed (own p row marks store out) t x rest)
 unfolding bare
-others-pass is-open row marks store time x rest out =
+others-pass is-open row marks store t x rest out =
     λ r s a b.
     determined (λ (r : Answer × List ℕ × List ℕ × List ℕ × List ℕ). left (turn (any is-open) (r .0)) (r .1) (r .2) (r .3) (r .4))
     (λ (z : After). (z .answer, z .own .row, z .own .marks, z .own .store, z .own .out)) (λ r. refl)
-    (passed (own (any is-open) row marks store out) time x rest) r s (a (any is-open) refl) (b (any is-open) refl)
+    (passed (own (any is-open) row marks store out) t x rest) r s (a (any is-open) refl) (b (any is-open) refl)

@@ -10,6 +10,8 @@ use Rattle.laws.specs.Exactly.{Determines, determined, equation, determined-by-
 use Rattle.paper.specs.Limits.{sampleMost}
 use Rattle.paper.specs.declared.Answer.{Answer}
 use Rattle.paper.specs.declared.Name.{Name}
+use Rattle.paper.specs.declared.Sender.{Sender}
+use Rattle.paper.specs.declared.Time.{Time}
 use Rattle.text.specs.Unicode.{character, wellFormed}
 use Rattle.boxes.specs.declared.Found.{Found}
 use Rattle.boxes.specs.Step.{stepOf}
@@ -32,7 +34,7 @@ use Rattle.hall.specs.declared.Heard.{Heard}
 use Rattle.hall.specs.declared.Freed.{Freed}
 use Rattle.hall.specs.Hall.{tablesOf, lent, heard, freed}
 use Rattle.export.specs.Export.{Numbered, numbered, startedAs, releasedAs, Rowed, rowed, doneAs, Wrote, wrote, writtenAs}
-use Rattle.numbers.specs.Numbers.{checkedRow, writtenRow, steppedRow, nameOf}
+use Rattle.numbers.specs.Numbers.{checkedRow, writtenRow, steppedRow, nameOf, sentBy}
 use Rattle.answers.specs.Answers.{answerRow, rowMost}
 use Rattle.sizes.specs.Sizes.{placeSize, needed}
 use Rattle.lines.specs.Typed.{Page, page, typed}
@@ -50,7 +52,7 @@ held-set-up n s =
     (λ (m : Prepared). (begun (m .tables .places) (m .answer), m .tables .rows, m .tables .marks, m .tables .stores)) (λ x. refl)
     (setUp n s)
 
-pub held-receive : (s : Tables) (who : Name) (rest out : List ℕ)
+pub held-receive : (s : Tables) (who : Sender) (rest out : List ℕ)
     → Determines (λ (x : Called × List ℕ × List ℕ × List ℕ × List ℕ).
     done (tables (x .0 .places) (x .1) (x .2) (x .3)) (x .4) (x .0 .answer) ≡ receivedAt s who rest out)
 held-receive s who rest out =
@@ -74,7 +76,8 @@ hallOf t o = record { places = t .places; rows = t .rows; marks = t .marks; stor
 pub hall-set-up : (n : ℕ) → Determines (λ (r : Hall). (tablesOf r ≡ setUp n lent .tables) × (r .out ≡ replicate sampleMost 0))
 hall-set-up n = determined-by-two tablesOf (λ r. r .out) hallOf (λ r. refl) (setUp n lent .tables) (replicate sampleMost 0)
 
-pub hall-receive : (h : Hall) (who : Name) (rest : List ℕ) → Determines (λ (r : Heard). heard r ≡ receivedAt (tablesOf h) who rest (h .out))
+pub hall-receive : (h : Hall) (who : Sender) (rest : List ℕ)
+    → Determines (λ (r : Heard). heard r ≡ receivedAt (tablesOf h) who rest (h .out))
 hall-receive h who rest =
     determined heard (λ (d : Done). record { hall = hallOf (d .tables) (d .out); answer = d .answer }) (λ r. refl)
     (receivedAt (tablesOf h) who rest (h .out))
@@ -100,6 +103,9 @@ numbers-put-stepped row next f = equation (sets row 0 (steppedRow next f))
 
 pub numbers-name-of : (desk time : ℕ) → Determines (λ (r : Name). r ≡ nameOf desk time)
 numbers-name-of desk time = equation (nameOf desk time)
+
+pub numbers-sent-by : (desk known time : ℕ) → Determines (λ (r : Sender). r ≡ sentBy desk known time)
+numbers-sent-by desk known time = equation (sentBy desk known time)
 
 pub numbers-started-number : (s : Started) → Determines (λ (r : ℕ). r ≡ startedNumber s)
 numbers-started-number s = equation (startedNumber s)
@@ -136,12 +142,12 @@ export-sizes need n = equation (needed need n)
 pub export-set-up : (n : ℕ) (s : Tables) → Determines (λ (x : Tables × ℕ). numbered (x .0) (x .1) ≡ startedAs (setUp n s))
 export-set-up n s = determined (λ x. numbered (x .0) (x .1)) (λ (m : Numbered). (m .tables, m .number)) (λ x. refl) (startedAs (setUp n s))
 
-pub export-receive : (s : Tables) (desk time : ℕ) (rest out row : List ℕ)
+pub export-receive : (s : Tables) (desk known time : ℕ) (rest out row : List ℕ)
     → Determines (λ (x : ℕ × Tables × List ℕ × List ℕ).
-    rowed (x .0) (x .1) (x .2) (x .3) ≡ doneAs (receivedAt s (nameOf desk time) rest out) row)
-export-receive s desk time rest out row =
+    rowed (x .0) (x .1) (x .2) (x .3) ≡ doneAs (receivedAt s (sentBy desk known time) rest out) row)
+export-receive s desk known time rest out row =
     determined (λ x. rowed (x .0) (x .1) (x .2) (x .3)) (λ (r : Rowed). (r .used, r .tables, r .out, r .row)) (λ x. refl)
-    (doneAs (receivedAt s (nameOf desk time) rest out) row)
+    (doneAs (receivedAt s (sentBy desk known time) rest out) row)
 
 pub export-give-up : (places : List Place) (rows marks : List ℕ) (desk time : ℕ)
     → Determines (λ (x : List Place × List ℕ × List ℕ × ℕ). (stores : List ℕ)
@@ -190,9 +196,9 @@ lines-put-text out at text = determined (λ x. page (x .0) (x .1)) (λ (p : Page
 pub lines-put-number : (out : List ℕ) (at n : ℕ) → Determines (λ (x : List ℕ × ℕ). page (x .0) (x .1) ≡ typed out at (digits n))
 lines-put-number out at n = lines-put-text out at (digits n)
 
-pub lines-put-line : (out : List ℕ) (at place time : ℕ) (a : Answer)
-    → Determines (λ (x : List ℕ × ℕ). page (x .0) (x .1) ≡ typed out at (lineOf place time a))
-lines-put-line out at place time a = lines-put-text out at (lineOf place time a)
+pub lines-put-line : (out : List ℕ) (at place : ℕ) (t : Time) (a : Answer)
+    → Determines (λ (x : List ℕ × ℕ). page (x .0) (x .1) ≡ typed out at (lineOf place t a))
+lines-put-line out at place t a = lines-put-text out at (lineOf place t a)
 
 pub list-list : (input text : List ℕ) → Determines (λ (x : List ℕ × ℕ). page (x .0) (x .1) ≡ typed text 0 (listed input))
 list-list input text = lines-put-text text 0 (listed input)

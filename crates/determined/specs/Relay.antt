@@ -6,6 +6,7 @@ use mathlib.Core.List.{List, []}
 use Rattle.laws.specs.Exactly.{Determines, determined, equation}
 use Rattle.paper.specs.declared.Answer.{Answer}
 use Rattle.paper.specs.declared.Name.{Name}
+use Rattle.paper.specs.declared.Sender.{Sender}
 use Rattle.sample.specs.declared.Place.{Place}
 use Rattle.desk.specs.declared.GivenUp.{GivenUp}
 use Rattle.memory.specs.declared.Started.{Started}
@@ -14,7 +15,7 @@ use Rattle.memory.specs.Relay.{Tables, tables, Prepared, prepared, setUp, Done,
 pub relay-set-up : (n : ℕ) (s : Tables) → Determines (λ (x : Tables × Started). prepared (x .0) (x .1) ≡ setUp n s)
 relay-set-up n s = determined (λ x. prepared (x .0) (x .1)) (λ (m : Prepared). (m .tables, m .answer)) (λ x. refl) (setUp n s)
 
-pub relay-receive : (s : Tables) (who : Name) (rest out : List ℕ)
+pub relay-receive : (s : Tables) (who : Sender) (rest out : List ℕ)
     → Determines (λ (x : Tables × List ℕ × Answer). done (x .0) (x .1) (x .2) ≡ receivedAt s who rest out)
 relay-receive s who rest out =
     determined (λ x. done (x .0) (x .1) (x .2)) (λ (d : Done). (d .tables, d .out, d .answer)) (λ x. refl) (receivedAt s who rest out)

@@ -13,6 +13,7 @@ use Rattle.laws.specs.Table.{seek}
 use Rattle.paper.specs.Limits.{places, rowsNeed, storesNeed}
 use Rattle.paper.specs.declared.Answer.{Answer}
 use Rattle.paper.specs.declared.Name.{Name}
+use Rattle.paper.specs.declared.Sender.{Sender}
 use Rattle.unit.specs.declared.Reading.{Reading}
 use Rattle.sample.specs.declared.Place.{Place}
 use Rattle.sample.specs.declared.Head.{Head}
@@ -24,11 +25,11 @@ use Rattle.desk.specs.declared.GivenUp.{GivenUp}
 use Rattle.asks.specs.declared.Arrival.{Arrival}
 use Rattle.asks.specs.Settled.{openIn}
 use Rattle.memory.specs.declared.Started.{Started}
-use Rattle.memory.specs.Table.{vacant, isAt}
+use Rattle.memory.specs.Table.{vacant, isTime, isAt}
 use Rattle.memory.specs.Relay.{desksOf, storedShares, recounted, improper, stranger, lacks, lacksThree, lookedUp}
 use Rattle.table.specs.Table.{holds, stored, cleared, headed}
 use Rattle.gate.specs.declared.Gate.{Gate}
-use Rattle.looks.specs.Looks.{reachOf, reachFor, askedOf, spotOf, freedAt}
+use Rattle.looks.specs.Looks.{reachAt, reachFor, askedOf, spotOf, senderOf, freedAt}
 use Rattle.gate.specs.Gate.{gateOf}
 use Rattle.fresh.specs.Fresh.{fitting, startedOf, madeMarks}
 use Rattle.steps.specs.Plan.{Plan, plan, partPlanned, laidPlan, countedPlan, passPlanned, Yield, yield, yielding, placeAfter}
@@ -39,14 +40,17 @@ use Rattle.determined.specs.Desk.{any, Sample, sample}
 pub finds-len : (t : List Place) → Determines (λ (r : ℕ). r ≡ length t)
 finds-len t = equation (length t)
 
-pub finds-find : (t : List Place) (m : ℕ) (who : Name) → Determines (λ (r : ℕ). r ≡ seek (isAt (who .desk) (who .time)) (take m t))
+pub finds-bears : (when : ℕ) (who : Sender) → Determines (λ (r : Bool). r ≡ isTime (who .time) when)
+finds-bears when who = equation (isTime (who .time) when)
+
+pub finds-find : (t : List Place) (m : ℕ) (who : Sender) → Determines (λ (r : ℕ). r ≡ seek (isAt (who .desk) (who .time)) (take m t))
 finds-find t m who = equation (seek (isAt (who .desk) (who .time)) (take m t))
 
 pub finds-lowest : (t : List Place) (m : ℕ) → Determines (λ (r : ℕ). r ≡ seek vacant (take m t))
 finds-lowest t m = equation (seek vacant (take m t))
 
 -- ---- counts
-pub counts-is-open : (t : List Place) (m : ℕ) (who : Name)
+pub counts-is-open : (t : List Place) (m : ℕ) (who : Sender)
     → Determines (λ (r : Bool). r ≡ holds (isAt (who .desk) (who .time)) (take m t))
 counts-is-open t m who = equation (holds (isAt (who .desk) (who .time)) (take m t))
 
@@ -109,11 +113,12 @@ pub fresh-answer-of : (n : ℕ) → Determines (λ (r : Started). r ≡ startedO
 fresh-answer-of n = equation (startedOf n)
 
 -- ---- looks
-pub looks-reach : (marks : List ℕ) (len : ℕ) → Determines (λ (r : ℕ). r ≡ reachOf (desksOf marks) len)
-looks-reach marks len = equation (reachOf (desksOf marks) len)
+pub looks-reach : (marks : List ℕ) (who : Sender) (len : ℕ) → Determines (λ (r : ℕ). r ≡ reachAt (desksOf marks) (who .time) len)
+looks-reach marks who len = equation (reachAt (desksOf marks) (who .time) len)
 
-pub looks-reach-for : (marks : List ℕ) (len : ℕ) (x : Reading) → Determines (λ (r : ℕ). r ≡ reachFor (desksOf marks) len (x .unit))
-looks-reach-for marks len x = equation (reachFor (desksOf marks) len (x .unit))
+pub looks-reach-for : (marks : List ℕ) (who : Sender) (len : ℕ) (x : Reading)
+    → Determines (λ (r : ℕ). r ≡ reachFor (desksOf marks) (who .time) len (x .unit))
+looks-reach-for marks who len x = equation (reachFor (desksOf marks) (who .time) len (x .unit))
 
 pub looks-asked : (at m : ℕ) → Determines (λ (r : ℕ). r ≡ askedOf at m)
 looks-asked at m = equation (askedOf at m)
@@ -121,11 +126,14 @@ looks-asked at m = equation (askedOf at m)
 pub looks-spot : (at low m len : ℕ) (x : Arrival) → Determines (λ (r : ℕ). r ≡ spotOf at low m len (x .part .total))
 looks-spot at low m len x = equation (spotOf at low m len (x .part .total))
 
+pub looks-sender-of : (who : Name) → Determines (λ (r : Sender). r ≡ senderOf who)
+looks-sender-of who = equation (senderOf who)
+
 pub looks-freed-at : (g : GivenUp) (at len : ℕ) → Determines (λ (r : ℕ). r ≡ freedAt g at len)
 looks-freed-at g at len = equation (freedAt g at len)
 
 -- ---- takes, yields. Of the stores the first two know the length
-module _ (table : ℕ) (rows marks : List ℕ) (store-len : ℕ) (who : Name) (x : Arrival) (rest out : List ℕ) where
+module _ (table : ℕ) (rows marks : List ℕ) (store-len : ℕ) (who : Sender) (x : Arrival) (rest out : List ℕ) where
   abbrev stores : List ℕ
   stores = replicate store-len 0
 
@@ -154,7 +162,7 @@ module _ (table : ℕ) (rows marks : List ℕ) (store-len : ℕ) (who : Name) (x
       (λ (z : Plan). (z .answer, z .rows, z .marks, z .out)) (λ r. refl)
       (lost stores) r s (a stores (length-replicate store-len 0)) (b stores (length-replicate store-len 0))
 
-pub yields-pass-step : (table : ℕ) (is-open : Bool) (rows marks stores : List ℕ) (who : Name) (x : Reading) (rest out : List ℕ)
+pub yields-pass-step : (table : ℕ) (is-open : Bool) (rows marks stores : List ℕ) (who : Sender) (x : Reading) (rest out : List ℕ)
     → Determines (λ (r : Answer × List ℕ × List ℕ × List ℕ × List ℕ). (p : Place) → p .used ≡ is-open
     → plan p (r .0) (r .1) (r .2) (r .3) (r .4) ≡ passPlanned table p rows marks stores out who x rest)
 unfolding bare

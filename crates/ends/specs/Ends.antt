@@ -7,6 +7,7 @@ use lib.ListN.{length, replicate, set}
 use Rattle.laws.specs.Rows.{_⇒_⁏_, yes, lt, no, ge}
 use Rattle.paper.specs.Limits.{sampleMost, partsMost}
 use Rattle.paper.specs.declared.Refusal.the-variants as R
+use Rattle.paper.specs.declared.Time.{Time}
 use Rattle.paper.specs.declared.Outcome.the-variants as O
 use Rattle.sample.specs.declared.Head.{Head}
 use Rattle.sample.specs.declared.Place.{Place}
@@ -28,7 +29,7 @@ unfolding bare
 cleared h kinds starts lens bytes e a b c d = rw (e, a, b, c, d)
 
 -- ---- a part that is kept in q
-module _ (s : Own) (time used next : ℕ) (q : Place) (m : ℕ) (k : m ≡ missing q) where
+module _ (s : Own) (time used : ℕ) (next : Time) (q : Place) (m : ℕ) (k : m ≡ missing q) where
   pub kept-some : 0 < m → (r : Turn) → r ≡ answering q used next (O.Kept m) → left r (s .row) (s .marks) (s .store) (s .out)
       ≡ completed s time used next q
   unfolding completed

@@ -4,6 +4,7 @@ use desk::GivenUp;
 use paper::Facts;
 use paper::Outcome;
 use paper::Refusal;
+use paper::Time;
 use paper::limits::PARTS_MOST;
 use paper::limits::SAMPLE_MOST;
 use sample::Head;
@@ -37,7 +38,7 @@ pub fn complete(
     marks: &mut [u32],
     time: u32,
     used: usize,
-    next: u32,
+    next: Time,
     out: &mut [u8],
 ) -> Settled
     ensures { λ r. ⌜ ((p : Place) (store : List ℕ)

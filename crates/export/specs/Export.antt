@@ -5,6 +5,7 @@ use mathlib.Core.List.{List}
 use denote.Ref.{now}
 use lib.Seq.{sets}
 use Rattle.paper.specs.declared.Name.{Name}
+use Rattle.paper.specs.declared.Sender.{Sender}
 use Rattle.writer.specs.Write as Write
 use Rattle.desk.specs.Desk.{givenUpNumber}
 use Rattle.memory.specs.Relay.{Tables, Prepared, startedNumber, setUp, Done, receivedAt, Released, givenUpAt}
@@ -42,7 +43,7 @@ doneAs d row = rowed (d .answer .used) (d .tables) (d .out) (sets row 0 (answerR
 abbrev pub SetsUpAs : (n : ℕ) → Lent → (r : ℕ) → Type 0
 SetsUpAs n l r = numbered (l .exit) r ≡ startedAs (setUp n (l .entry))
 
-abbrev pub ReceivesAs : Lent → Name → (rest out row : Slice ℕ) → (used : ℕ) → Type 0
+abbrev pub ReceivesAs : Lent → Sender → (rest out row : Slice ℕ) → (used : ℕ) → Type 0
 ReceivesAs l who rest out row used =
     rowed used (l .exit) (now (out .exit)) (now (row .exit))
     ≡ doneAs (receivedAt (l .entry) who (now (rest .entry)) (now (out .entry))) (now (row .entry))

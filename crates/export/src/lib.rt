@@ -11,7 +11,7 @@ ghost use Rattle.style.specs.Book.{checkOf};
 ghost use Rattle.boxes.specs.Step.{stepOf};
 ghost use Rattle.text.specs.Unicode.{character, wellFormed};
 ghost use Rattle.writer.specs.Write.{caption, written, described};
-ghost use Rattle.numbers.specs.Numbers.{checkedRow, steppedRow, nameOf};
+ghost use Rattle.numbers.specs.Numbers.{checkedRow, steppedRow, nameOf, sentBy};
 ghost use Rattle.answers.specs.Answers.{rowMost};
 ghost use Rattle.sizes.specs.Sizes.{placeSize, needed};
 ghost use Rattle.export.specs.Export.{SetsUpAs, ReceivesAs, GivesUpAs, wrote, writtenAs};
@@ -37,7 +37,7 @@ pub extern "C" fn spindlefig_output() -> usize
 pub extern "C" fn spindlefig_row() -> usize
     ensures { λ r. ⌜ r ≡ rowMost ⌝ }
 {
-    9
+    10
 }
 
 // What n desks need, in elements; 0 where n is not 1 to 8.
@@ -84,7 +84,8 @@ pub extern "C" fn spindlefig_set_up(
     numbers::started_number(s)
 }
 
-// Takes the unit at the front of the rest. Answers the bytes used; the row gets all of the answer.
+// Takes the unit at the front of the rest, at the running time: unknown where `known` is 0, and `time` is not looked at. Answers the bytes
+// used; the row gets all of the answer.
 #[no_mangle]
 pub extern "C" fn spindlefig_receive(
     places: &mut [Place],
@@ -92,14 +93,15 @@ pub extern "C" fn spindlefig_receive(
     marks: &mut [u32],
     stores: &mut [u8],
     desk: usize,
+    known: usize,
     time: u32,
     rest: &[u8],
     out: &mut [u8],
     row: &mut [u64],
 ) -> usize
-    ensures { λ r. ⌜ ReceivesAs (lent places rows marks stores) (nameOf desk time) rest out row r ⌝ }
+    ensures { λ r. ⌜ ReceivesAs (lent places rows marks stores) (sentBy desk known time) rest out row r ⌝ }
 {
-    let who = numbers::name_of(desk, time);
+    let who = numbers::sent_by(desk, known, time);
     let a = relay::receive(places, rows, marks, stores, who, rest, out);
     answers::put_answer(row, a)
 }

@@ -1,11 +1,12 @@
-// Where a place stands among the first m of the lent table: the one of a name, the lowest free one.
-use paper::Name;
+// Where a place stands among the first m of the lent table: the sender's sample, the lowest free one.
+use paper::Sender;
+use paper::Time;
 use sample::Place;
 ghost use mathlib.Core.Path.{_≡_};
 ghost use lib.ListN.{length, take};
 ghost use Rattle.laws.specs.Rows.{_and_, _=?_};
 ghost use Rattle.laws.specs.Table.{seek};
-ghost use Rattle.memory.specs.Table.{vacant, isAt};
+ghost use Rattle.memory.specs.Table.{vacant, isTime, isAt};
 
 // How many places are lent.
 pub fn len(t: &[Place]) -> usize
@@ -14,13 +15,23 @@ pub fn len(t: &[Place]) -> usize
     t.len()
 }
 
-// Whether a place is the sample of a name: the time is compared first, since it differs most often.
-fn is_of(when: u32, used: bool, own: usize, who: Name) -> bool
-    ensures { λ r. ⌜ r ≡ (used and own =? who .desk and when =? who .time) ⌝ }
+// Whether a place, used or not, bears the sender's time.
+pub fn bears(when: u32, who: Sender) -> bool
+    ensures { λ r. ⌜ r ≡ isTime (who .time) when ⌝ }
+{
+    let t = who.time;
+    match t {
+        Time::Known(time) => when == time,
+        Time::Unknown => false,
+    }
+}
+
+// Whether a place is the sender's sample: the time is compared first, since it differs most often.
+fn is_of(when: u32, used: bool, own: usize, who: Sender) -> bool
+    ensures { λ r. ⌜ r ≡ (used and own =? who .desk and isTime (who .time) when) ⌝ }
 {
     let desk = who.desk;
-    let time = who.time;
-    if when == time {
+    if bears(when, who) {
         if used {
             return own == desk;
         }
@@ -28,8 +39,8 @@ fn is_of(when: u32, used: bool, own: usize, who: Name) -> bool
     false
 }
 
-// The place of a name among the first m; how many there are where it has none.
-pub fn find(t: &[Place], m: usize, who: Name) -> usize
+// The place of the sender's sample among the first m; how many there are where it has none.
+pub fn find(t: &[Place], m: usize, who: Sender) -> usize
     ensures { λ r. ⌜ r ≡ seek (isAt (who .desk) (who .time)) (take m (now (t .entry))) ⌝ }
 {
     let n = octets::least(t.len(), m);

@@ -12,6 +12,7 @@ use lib.Seq.{getD-set-same, getD-set-other, drop-set-lt}
 use Rattle.laws.specs.Rows.{_⇒_⁏_, each, lt, lt-of, ge-of}
 use Rattle.laws.specs.Table.{bit, count}
 use Rattle.paper.specs.Limits.{desksMost, ownPlaces, headSize, desksAt, commonAt, opensAt, markMost}
+use Rattle.paper.specs.declared.Time.{Time}
 use Rattle.sample.specs.declared.Place.{Place}
 use Rattle.memory.specs.Table.{mine}
 use Rattle.memory.specs.Relay.{desksOf, openAt, commonUse, commonOf, opensOf, stepped, commonStepped, recounted}
@@ -84,7 +85,7 @@ module _ (desk : ℕ) (was is : Bool) (l : List ℕ) where
           getD-set-other one commonAt (opensAt + desk) common 0 (λ e. omega arith) ∙ getD-set-same l (opensAt + desk) opens 0 (omega arith)
 
 -- ---- a desk's call: l before, k after
-module _ (n d t : ℕ) (p : Place) (l k : List Place) (to : n ≤ desksMost) (f : Fair n l) (h : d < n) (m : Moved d t p l k)
+module _ (n d : ℕ) (t : Time) (p : Place) (l k : List Place) (to : n ≤ desksMost) (f : Fair n l) (h : d < n) (m : Moved d t p l k)
     (was is : Bool) (w : was ≡ openAt d t l .used) (i : is ≡ p .used) (marks : List ℕ) (long : headSize ≤ length marks)
     (s : Stored n l marks) where
   its : d < desksMost

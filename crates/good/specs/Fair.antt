@@ -12,19 +12,27 @@ use Rattle.laws.specs.Rows.{_⇒_⁏_, and-is, eq}
 use Rattle.laws.specs.Table.{bit, seek, count, seek-not, count-none}
 use Rattle.laws.specs.Sums.{sum, sum-more, sum-add, sum-gap, sum-ge, sum-zero, sum-changed}
 use Rattle.paper.specs.Limits.{ownPlaces, openMost, places, common}
+use Rattle.paper.specs.declared.Time.{Time}
+use Rattle.paper.specs.declared.Time.the-variants.{Known, Unknown}
 use Rattle.sample.specs.declared.Place.{Place}
 use Rattle.sample.specs.Place.{bare, closed}
-use Rattle.memory.specs.Table.{vacant, mine, isAt}
+use Rattle.memory.specs.Table.{vacant, mine, isTime, isAt}
 use Rattle.desk.specs.declared.Shares.{Shares}
 use Rattle.memory.specs.Relay.{openAt, commonUse, sharesOf}
-use Rattle.good.specs.Places.{open-none, Moved}
+use Rattle.memory.specs.Back.{open-unknown}
+use Rattle.good.specs.Places.{time-of, closed-free, open-none, Moved}
 
 -- a sample is open once at most; a desk has six open at most, and only desks below n have any; the common use is at most the common places
 pub record Fair (n : ℕ) (l : List Place) : Type 0 where
-  pub once : (d t : ℕ) → count (isAt d t) l ≤ 1
+  pub once : (d time : ℕ) → count (isAt d (Known time)) l ≤ 1
   pub six : (d : ℕ) → count (mine d) l ≤ openMost
   pub whose : (d : ℕ) → n ≤ d → count (mine d) l ≡ 0
   pub shared : commonUse n l ≤ common n
+
+-- at whatever time, known or not
+pub once-at : (n : ℕ) (l : List Place) → Fair n l → (d : ℕ) (t : Time) → count (isAt d t) l ≤ 1
+once-at n l f d (Known time) = f .once d time
+once-at n l f d Unknown = omega (arith, open-none d Unknown l (closed-free (openAt d Unknown l) (open-unknown d l)))
 
 -- the shares let a desk through: fewer than six are open, and fewer than two or the common use is not all of the common places
 pub record Passed (h : Shares) : Type 0 where
@@ -73,21 +81,21 @@ none-common n k = sum-zero n (λ (e : ℕ). count (mine e) (replicate k closed) 
 pub fair-closed : (n k : ℕ) → Fair n (replicate k closed)
 unfolding bare _⇒_⁏_
 fair-closed n k = record {
-  once = λ d t. omega (arith, count-none (isAt d t) k closed refl);
+  once = λ d time. omega (arith, count-none (isAt d (Known time)) k closed refl);
   six = λ d. omega (arith, none-mine d k);
   whose = λ d h. none-mine d k;
   shared = omega (arith, none-common n k);
 }
 
 -- ---- a desk below n leaves its sample of a time: the common use changes by what the desk has open beyond two
-pub common-moved : (n d t : ℕ) (p : Place) (l k : List Place) → d < n → Moved d t p l k
+pub common-moved : (n d : ℕ) (t : Time) (p : Place) (l k : List Place) → d < n → Moved d t p l k
     → commonUse n k + (count (mine d) l - ownPlaces) ≡ commonUse n l + (count (mine d) k - ownPlaces)
 common-moved n d t p l k h m =
     sum-changed n d (λ (e : ℕ). count (mine e) k - ownPlaces) (λ (e : ℕ). count (mine e) l - ownPlaces) h
     (λ e q. omega (arith, m .other-mine e q))
 
 -- and fairness is kept, if a new one is let through
-module _ (n d t : ℕ) (p : Place) (l k : List Place) (f : Fair n l) (h : d < n) (m : Moved d t p l k)
+module _ (n d : ℕ) (t : Time) (p : Place) (l k : List Place) (f : Fair n l) (h : d < n) (m : Moved d t p l k)
     (passed : p .used ≡ true → openAt d t l .used ≡ false → Passed (sharesOf n d l)) where
   -- no more of the desk's samples are open than before; or one more, and the shares let it through
   abbrev Grows : Type 0
@@ -106,7 +114,7 @@ module _ (n d t : ℕ) (p : Place) (l k : List Place) (f : Fair n l) (h : d < n)
 
   pub fair-moved : Fair n k
   fair-moved = record {
-    once = λ e u. once e u (ℕ-discrete e d) (ℕ-discrete u t);
+    once = λ e u. once e u (ℕ-discrete e d) (isTime t u) refl;
     six = λ e. six e (ℕ-discrete e d);
     whose = λ e q. omega (arith, f .whose e q, m .other-mine e (λ c. omega arith));
     shared =
@@ -115,10 +123,11 @@ module _ (n d t : ℕ) (p : Place) (l k : List Place) (f : Fair n l) (h : d < n)
         ⊎-elim (λ w. omega arith) (λ w. ⊎-elim (λ q. omega arith) (λ q. omega arith) (w .1 .1 .share)) grows;
   }
     where
-      once : (e u : ℕ) → Dec (e ≡ d) → Dec (u ≡ t) → count (isAt e u) k ≤ 1
-      once e u (yes q) (yes r) = rw (q, r) (⊎-elim (λ w. omega (arith, f .once d t)) (λ w. w .0) grows)
-      once e u (yes q) (no r) = omega (arith, f .once e u, m .other-isAt e u (λ a. r))
-      once e u (no q) r = omega (arith, f .once e u, m .other-isAt e u (λ a b. q a))
+      once : (e u : ℕ) → Dec (e ≡ d) → (b : Bool) → isTime t u ≡ b → count (isAt e (Known u)) k ≤ 1
+      once e u (yes q) true r =
+          rw (q, ← (time-of t u r)) (⊎-elim (λ w. omega (arith, once-at n l f d t)) (λ w. w .0) grows)
+      once e u (yes q) false r = omega (arith, f .once e u, m .other-isAt e u (λ a. r))
+      once e u (no q) b r = omega (arith, f .once e u, m .other-isAt e u (λ a. absurd (q a)))
 
       six : (e : ℕ) → Dec (e ≡ d) → count (mine e) k ≤ openMost
       six e (yes q) = rw q (⊎-elim (λ w. omega (arith, f .six d)) (λ w. omega (arith, w .1 .1 .below)) grows)

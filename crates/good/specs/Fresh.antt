@@ -11,6 +11,7 @@ use Rattle.laws.specs.Rows.{_or_, no, ge, or-none, ge-of}
 use Rattle.laws.specs.Region.{part}
 use Rattle.laws.specs.Table.{seek}
 use Rattle.paper.specs.Limits.{headSize, finishedMost, inBand, marksEach, storeSize, places, rowsNeed, marksNeed, storesNeed}
+use Rattle.paper.specs.declared.Time.the-variants.{Known}
 use Rattle.sample.specs.Place.{closed}
 use Rattle.memory.specs.Table.{isAt}
 use Rattle.memory.specs.declared.Started.the-variants.{Ready}
@@ -73,7 +74,7 @@ set-up-view n d s q h =
     let two = or-none _ _ (three .1) in
     let f = all-closed (places n) (s .places) (ge-of _ _ (three .0)) in
     subst (λ (m : Prepared). view n d (m .tables) ≡ freshView) (no _ _ e refl)
-    (same-view _ _ (λ time. rw f (none-open (places n) (seek (isAt d time) (replicate (places n) closed))))
+    (same-view _ _ (λ time. rw f (none-open (places n) (seek (isAt d (Known time)) (replicate (places n) closed))))
     (rw f (none-mine d (places n))) (cell-fresh finishedMost n d h 0 (s .rows) (ge-of _ _ (two .0)))
     (cell-stored marksEach n d h headSize (freshMarks n) (s .marks) (fresh-length n) (ge-of _ _ (two .1)) ∙ marks-alike n d h)
     (cell-fresh storeSize n d h 0 (s .stores) (ge-of _ _ (c .1))))

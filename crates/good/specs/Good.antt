@@ -16,6 +16,9 @@ use Rattle.paper.specs.Limits.{headSize, desksAt, commonAt, opensAt, finishedMo
 use Rattle.paper.specs.Limits.{places, rowsNeed, marksNeed, storesNeed}
 use Rattle.paper.specs.declared.Refusal.the-variants as R
 use Rattle.paper.specs.declared.Name.{Name}
+use Rattle.paper.specs.declared.Sender.{Sender}
+use Rattle.paper.specs.declared.Time.{Time}
+use Rattle.paper.specs.declared.Time.the-variants.{Known}
 use Rattle.sample.specs.declared.Place.{Place}
 use Rattle.sample.specs.Place.{closed}
 use Rattle.sample.specs.Text.{Sane, closed-sane}
@@ -25,7 +28,7 @@ use Rattle.memory.specs.Table.{vacant}
 use Rattle.memory.specs.Relay.{Tables, desksOf, placesOf, openAt, ownOf, sharesOf, commonOf, opensOf, storedShares}
 use Rattle.memory.specs.Relay.{standsAt, placed, putBack, improper, stranger, short, lacksThree, lacking}
 use Rattle.memory.specs.Relay.{Prepared, prepared, ownMarks, freshMarks, freshTables, setUp, ordered, yielded}
-use Rattle.memory.specs.Relay.{receivedAmong, receivedAt, givenUpAmong, givenUpAt}
+use Rattle.memory.specs.Relay.{receivedAmong, sender, receivedAt, givenUpAmong, givenUpAt}
 use Rattle.memory.specs.Back.{put-same}
 use Rattle.good.specs.Cells.{Cells, behind, front, cells-behind, length-front, cells-front}
 use Rattle.good.specs.Places.{open-named, is-used, Moved, moved}
@@ -33,7 +36,7 @@ use Rattle.good.specs.Fair.{Fair, Passed, room, none-mine, none-common, 
 use Rattle.good.specs.Counts.{recounted-length, recounted-desks, recounted-behind, Stored, stored-moved}
 use Rattle.good.specs.Leaves.{Leaves, ordered-leaves, yielded-leaves}
 
--- a desk's sample of a time, as a call is told it
+-- a desk's sample of a time, as give-up is told it
 abbrev pub name : (desk time : ℕ) → Name
 name desk time = record { desk = desk; time = time }
 
@@ -152,36 +155,36 @@ well-set (y ∷ l) (suc i) p h w (suc j) = well-set l i p (λ j. h (suc j)) w j
 -- ---- what a desk's call leaves, put back
 -- it fits: in the table nothing but the desk's sample of that time changes, and in each list nothing but the desk's cell; and behind their
 -- head the marks are as if nothing were counted
-pub record Fits (n : ℕ) (s : Tables) (desk time : ℕ) (o : Own) : Type 0 where
-  pub moved : Moved desk time (o .place) (placesOf n s) (placesOf n (putBack n s desk time o))
-  pub places : length (placed desk time (o .place) (placesOf n s)) ≡ places n
+pub record Fits (n : ℕ) (s : Tables) (desk : ℕ) (t : Time) (o : Own) : Type 0 where
+  pub moved : Moved desk t (o .place) (placesOf n s) (placesOf n (putBack n s desk t o))
+  pub places : length (placed desk t (o .place) (placesOf n s)) ≡ places n
   pub rows : Cells front finishedMost n desk (s .rows) (o .row)
   pub marks : Cells (behind headSize) marksEach n desk (s .marks) (o .marks)
   pub stores : Cells front storeSize n desk (s .stores) (o .store)
   pub counted : (b : ℕ) → headSize ≤ b
-      → drop b (putBack n s desk time o .marks) ≡ drop b (splice (headSize + marksEach * desk) marksEach (o .marks) (s .marks))
+      → drop b (putBack n s desk t o .marks) ≡ drop b (splice (headSize + marksEach * desk) marksEach (o .marks) (s .marks))
 
-module _ (n : ℕ) (s : Tables) (desk time : ℕ) where
+module _ (n : ℕ) (s : Tables) (desk : ℕ) (t : Time) where
   -- o is what a call with this output may leave of the desk's own things
   abbrev pub Left : (out : List ℕ) → Own → Type 0
-  Left out o = Leaves (storedShares n desk (s .marks)) (ownOf n s desk time out) desk time o
+  Left out o = Leaves (storedShares n desk (s .marks)) (ownOf n s desk t out) desk t o
 
   module _ (out : List ℕ) (o : Own) (g : Good n s) (h : desk < n) (k : Left out o) where
     -- a new one is let through by what a walk finds
-    walked : o .place .used ≡ true → openAt desk time (placesOf n s) .used ≡ false → Passed (sharesOf n desk (placesOf n s))
+    walked : o .place .used ≡ true → openAt desk t (placesOf n s) .used ≡ false → Passed (sharesOf n desk (placesOf n s))
     walked u f = subst Passed (shares-are n desk s g h) (k .new u f)
 
-    found : o .place .used ≡ true → openAt desk time (placesOf n s) .used ≡ false → seek vacant (placesOf n s) < length (placesOf n s)
+    found : o .place .used ≡ true → openAt desk t (placesOf n s) .used ≡ false → seek vacant (placesOf n s) < length (placesOf n s)
     found u f = room n desk (placesOf n s) (g .fair) (walked u f) (length-take-le (places n) (s .places) (g .places)) h
 
-    pub fits : Fits n s desk time o
+    pub fits : Fits n s desk t o
     fits =
         let l = length-take-le (places n) (s .places) (g .places) in
-        let p = length-set (placesOf n s) (standsAt desk time (o .place) (placesOf n s)) (o .place) ∙ l in
+        let p = length-set (placesOf n s) (standsAt desk t (o .place) (placesOf n s)) (o .place) ∙ l in
         record {
           moved =
-              rw (take-at (placed desk time (o .place) (placesOf n s)) (drop (places n) (s .places)) (places n) p)
-              (moved desk time (o .place) (placesOf n s) (k .named) found);
+              rw (take-at (placed desk t (o .place) (placesOf n s)) (drop (places n) (s .places)) (places n) p)
+              (moved desk t (o .place) (placesOf n s) (k .named) found);
           places = p;
           rows =
               cells-front finishedMost n desk (s .rows) (g .rows) h (o .row)
@@ -204,70 +207,73 @@ module _ (n : ℕ) (s : Tables) (desk time : ℕ) where
     head-stays i q =
         sym (getD-take headSize spliced i 0 q) ∙ ap (λ (l : List ℕ). getD l i 0) (fits .marks .before) ∙ getD-take headSize (s .marks) i 0 q
 
-    put-stored : Stored n (placesOf n (putBack n s desk time o)) (putBack n s desk time o .marks)
+    put-stored : Stored n (placesOf n (putBack n s desk t o)) (putBack n s desk t o .marks)
     put-stored =
-        stored-moved n desk time (o .place) (placesOf n s) _ (g .to) (g .fair) h (fits .moved) _ _
-        refl (is-used desk time (o .place) (placesOf n s) (k .named) found)
+        stored-moved n desk t (o .place) (placesOf n s) _ (g .to) (g .fair) h (fits .moved) _ _
+        refl (is-used desk t (o .place) (placesOf n s) (k .named) found)
         spliced (omega (arith, g .marks, fits .marks .long))
         (record {
           opens = λ e q. head-stays (opensAt + e) (omega arith) ∙ g .stored .opens e q;
           common = head-stays commonAt (omega arith) ∙ g .stored .common;
         })
 
-    put-good : Good n (putBack n s desk time o)
+    put-good : Good n (putBack n s desk t o)
     put-good = record {
       from = g .from;
       to = g .to;
       head = recounted-desks desk _ _ spliced ∙ head-stays desksAt (omega arith) ∙ g .head;
-      places = omega (arith, length-append (placed desk time (o .place) (placesOf n s)) (drop (places n) (s .places)), fits .places);
+      places = omega (arith, length-append (placed desk t (o .place) (placesOf n s)) (drop (places n) (s .places)), fits .places);
       rows = omega (arith, g .rows, fits .rows .long);
       marks = subst (λ (k : ℕ). marksNeed n ≤ k) (sym (recounted-length desk _ _ spliced ∙ fits .marks .long)) (g .marks);
       stores = omega (arith, g .stores, fits .stores .long);
-      fair = fair-moved n desk time (o .place) (placesOf n s) _ (g .fair) h (fits .moved) walked;
+      fair = fair-moved n desk t (o .place) (placesOf n s) _ (g .fair) h (fits .moved) walked;
       well =
-          rw (take-at (placed desk time (o .place) (placesOf n s)) (drop (places n) (s .places)) (places n) (fits .places))
-          (well-set (placesOf n s) (standsAt desk time (o .place) (placesOf n s)) (o .place) (g .well)
+          rw (take-at (placed desk t (o .place) (placesOf n s)) (drop (places n) (s .places)) (places n) (fits .places))
+          (well-set (placesOf n s) (standsAt desk t (o .place) (placesOf n s)) (o .place) (g .well)
           (record { sane = k .sane (g .well _ .sane); free = k .named .free }));
       stored = put-stored;
     }
 
   pub receive-left : (one : Bool) (rest out : List ℕ)
-      → Left out (ordered one (storedShares n desk (s .marks)) (ownOf n s desk time out) desk time rest .own)
-  receive-left one rest out = ordered-leaves _ (ownOf n s desk time out) desk time (open-named desk time (placesOf n s)) one rest
+      → Left out (ordered one (storedShares n desk (s .marks)) (ownOf n s desk t out) desk t rest .own)
+  receive-left one rest out = ordered-leaves _ (ownOf n s desk t out) desk t (open-named desk t (placesOf n s)) one rest
 
-  pub give-up-left : (one : Bool) → Left [] (yielded one (ownOf n s desk time []) time .own)
-  give-up-left one = yielded-leaves _ (ownOf n s desk time []) desk time (open-named desk time (placesOf n s)) one
+pub give-up-left : (n : ℕ) (s : Tables) (desk time : ℕ) (one : Bool)
+    → Left n s desk (Known time) [] (yielded one (ownOf n s desk (Known time) []) time .own)
+give-up-left n s desk time one =
+    yielded-leaves _ (ownOf n s desk (Known time) []) desk (Known time) (open-named desk (Known time) (placesOf n s)) one time
 
-  -- what holds of the tables, and of them with what a call may leave put back, holds after every call
-  module _ (head : desksOf (s .marks) ≡ n) (P : Tables → Type 0) (same : P s) where
-    pub receive-each : (rest out : List ℕ) → (desk < n → (o : Own) → Left out o → P (putBack n s desk time o))
-        → P (receivedAt s (name desk time) rest out .tables)
-    unfolding receivedAmong ordered _⇒_⁏_
-    receive-each rest out put =
-        subst (λ (k : ℕ). P (receivedAmong k s desk time rest out .tables)) (sym head) (go (stranger n desk or lacking n s) refl)
-      where
-        go : (one : Bool) → (stranger n desk or lacking n s) ≡ one
-            → P (putBack n s desk time (ordered one (storedShares n desk (s .marks)) (ownOf n s desk time out) desk time rest .own))
-        go true e = subst P (sym (put-same n s desk time out)) same
-        go false e = put (below n desk (or-none _ _ e .0)) _ (receive-left false rest out)
+-- what holds of the tables, and of them with what a call may leave put back, holds after every call
+module _ (n : ℕ) (s : Tables) (desk : ℕ) (head : desksOf (s .marks) ≡ n) (P : Tables → Type 0) (same : P s) where
+  pub receive-each : (t : Time) (rest out : List ℕ) → (desk < n → (o : Own) → Left n s desk t out o → P (putBack n s desk t o))
+      → P (receivedAt s (sender desk t) rest out .tables)
+  unfolding receivedAmong ordered _⇒_⁏_
+  receive-each t rest out put =
+      subst (λ (k : ℕ). P (receivedAmong k s desk t rest out .tables)) (sym head) (go (stranger n desk or lacking n s) refl)
+    where
+      go : (one : Bool) → (stranger n desk or lacking n s) ≡ one
+          → P (putBack n s desk t (ordered one (storedShares n desk (s .marks)) (ownOf n s desk t out) desk t rest .own))
+      go true e = subst P (sym (put-same n s desk t out)) same
+      go false e = put (below n desk (or-none _ _ e .0)) _ (receive-left n s desk t false rest out)
 
-    pub give-up-each : (desk < n → (o : Own) → Left [] o → P (putBack n s desk time o)) → P (givenUpAt s (name desk time) .tables)
-    unfolding givenUpAmong yielded _⇒_⁏_
-    give-up-each put =
-        subst (λ (k : ℕ). P (givenUpAmong k s desk time .tables)) (sym head)
-        (go (stranger n desk or lacksThree n (length (s .places)) (length (s .rows)) (length (s .marks))) refl)
-      where
-        go : (one : Bool) → (stranger n desk or lacksThree n (length (s .places)) (length (s .rows)) (length (s .marks))) ≡ one
-            → P (putBack n s desk time (yielded one (ownOf n s desk time []) time .own))
-        go true e = subst P (sym (put-same n s desk time [])) same
-        go false e = put (below n desk (or-none _ _ e .0)) _ (give-up-left false)
+  pub give-up-each : (time : ℕ) → (desk < n → (o : Own) → Left n s desk (Known time) [] o → P (putBack n s desk (Known time) o))
+      → P (givenUpAt s (name desk time) .tables)
+  unfolding givenUpAmong yielded _⇒_⁏_
+  give-up-each time put =
+      subst (λ (k : ℕ). P (givenUpAmong k s desk time .tables)) (sym head)
+      (go (stranger n desk or lacksThree n (length (s .places)) (length (s .rows)) (length (s .marks))) refl)
+    where
+      go : (one : Bool) → (stranger n desk or lacksThree n (length (s .places)) (length (s .rows)) (length (s .marks))) ≡ one
+          → P (putBack n s desk (Known time) (yielded one (ownOf n s desk (Known time) []) time .own))
+      go true e = subst P (sym (put-same n s desk (Known time) [])) same
+      go false e = put (below n desk (or-none _ _ e .0)) _ (give-up-left n s desk time false)
 
 -- ---- every call keeps good tables good
-module _ (n : ℕ) (s : Tables) (g : Good n s) (who : Name) where
-  pub receive-good : (rest out : List ℕ) → Good n (receivedAt s who rest out .tables)
-  receive-good rest out =
-      receive-each n s (who .desk) (who .time) (g .head) (Good n) g rest out (λ h o k. put-good n s (who .desk) (who .time) out o g h k)
+module _ (n : ℕ) (s : Tables) (g : Good n s) where
+  pub receive-good : (who : Sender) (rest out : List ℕ) → Good n (receivedAt s who rest out .tables)
+  receive-good who rest out =
+      receive-each n s (who .desk) (g .head) (Good n) g (who .time) rest out (λ h o k. put-good n s (who .desk) (who .time) out o g h k)
 
-  pub give-up-good : Good n (givenUpAt s who .tables)
-  give-up-good =
-      give-up-each n s (who .desk) (who .time) (g .head) (Good n) g (λ h o k. put-good n s (who .desk) (who .time) [] o g h k)
+  pub give-up-good : (who : Name) → Good n (givenUpAt s who .tables)
+  give-up-good who =
+      give-up-each n s (who .desk) (g .head) (Good n) g (who .time) (λ h o k. put-good n s (who .desk) (Known (who .time)) [] o g h k)

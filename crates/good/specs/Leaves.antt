@@ -8,8 +8,10 @@ use mathlib.Core.Bool.{Bool, true, false, true≢false}
 use mathlib.Core.Logic.{_⊎_, inl, inr, _≢_}
 use mathlib.Core.List.{List}
 use lib.ListN.{length, length-set}
-use Rattle.laws.specs.Rows.{_<?_, each, no, lt-of, ge-of, ne-of, or-none, not-of}
+use Rattle.laws.specs.Rows.{_<?_, each, no, eq, lt-of, ge-of, ne-of, or-none, not-of}
 use Rattle.paper.specs.Limits.{ownPlaces, common}
+use Rattle.paper.specs.declared.Time.{Time}
+use Rattle.paper.specs.declared.Time.the-variants.{Known}
 use Rattle.finished.specs.Marks.{length-kept}
 use Rattle.text.specs.Unicode.{WellFormed}
 use Rattle.unit.specs.declared.Whole as W
@@ -31,12 +33,14 @@ use Rattle.style.specs.Slots.{stored-length}
 use Rattle.desk.specs.declared.Shares.{Shares}
 use Rattle.desk.specs.Desk.{Own, After, Given, inUse, finish, wholeTaken, sampleOf, conflicts, six, usedUp, completed, joining}
 use Rattle.desk.specs.Desk.{descriptionTaken, taken, received, givenUp}
+use Rattle.desk.specs.Effects.{at-times}
+use Rattle.memory.specs.Table.{isTime}
 use Rattle.memory.specs.Relay.{ordered, yielded}
 use Rattle.good.specs.Places.{Named, closed-free, closed-named}
 use Rattle.good.specs.Fair.{Passed}
 
-pub record Leaves (h : Shares) (s : Own) (desk time : ℕ) (o : Own) : Type 0 where
-  pub named : Named desk time (o .place)
+pub record Leaves (h : Shares) (s : Own) (desk : ℕ) (t : Time) (o : Own) : Type 0 where
+  pub named : Named desk t (o .place)
   pub row : length (o .row) ≡ length (s .row)
   pub marks : length (o .marks) ≡ length (s .marks)
   pub store : length (o .store) ≡ length (s .store)
@@ -84,19 +88,19 @@ part-sane p m desk time x d c w a b =
     let n = each Sane (p .used) p _ (λ u. m) (λ u. opened-sane desk time x (c .most)) in
     keep-sane q n x d (fresh-part q x d c a b) (agreed q x a) (λ t. subst (WellFormed (x .u)) (string-text x d t) w)
 
-module _ (h : Shares) (s : Own) (desk time : ℕ) (named : Named desk time (s .place)) where
+module _ (h : Shares) (s : Own) (desk : ℕ) (t : Time) (named : Named desk t (s .place)) where
   same : s .place .used ≡ true → s .place .used ≡ false → Passed h
   same u f = absurd (true≢false (sym u ∙ f))
 
   none : closed .used ≡ true → s .place .used ≡ false → Passed h
   none u f = absurd (true≢false (sym u ∙ closed-free closed refl))
 
-  stay-leaves : Leaves h s desk time s
+  stay-leaves : Leaves h s desk t s
   stay-leaves = record { named = named; row = refl; marks = refl; store = refl; new = same; sane = λ m. m }
 
-  finish-leaves : (p : Place) (o : List ℕ) → Named desk time p → (p .used ≡ true → s .place .used ≡ false → Passed h)
-      → (Sane (s .place) → Sane p) → Leaves h s desk time (finish s time p o)
-  finish-leaves p o n k m = record {
+  finish-leaves : (time : ℕ) (p : Place) (o : List ℕ) → Named desk t p → (p .used ≡ true → s .place .used ≡ false → Passed h)
+      → (Sane (s .place) → Sane p) → Leaves h s desk t (finish s time p o)
+  finish-leaves time p o n k m = record {
     named = n;
     row = length-kept (s .row) (inUse (s .marks)) time;
     marks = length-set (s .marks) 0 _;
@@ -106,63 +110,70 @@ module _ (h : Shares) (s : Own) (desk time : ℕ) (named : Named desk time (s .p
   }
 
   abbrev L : After → Type 0
-  L a = Leaves h s desk time (a .own)
+  L a = Leaves h s desk t (a .own)
 
-  whole-leaves : (used : ℕ) (w : W.Whole) (d : List ℕ) → L (wholeTaken s time used w d)
+  whole-leaves : (time used : ℕ) (next : Time) (w : W.Whole) (d : List ℕ) → L (wholeTaken s time used next w d)
   unfolding wholeTaken
-  whole-leaves used w d =
+  whole-leaves time used next w d =
       each L _ _ _ (λ q. stay-leaves)
-      (λ q. each L _ _ _ (λ q. stay-leaves) (λ q. each L _ _ _ (λ q. stay-leaves) (λ q. finish-leaves (s .place) _ named same (λ m. m))))
+      (λ q. each L _ _ _ (λ q. stay-leaves)
+      (λ q. each L _ _ _ (λ q. stay-leaves) (λ q. finish-leaves time (s .place) _ named same (λ m. m))))
 
-  closes : (o : List ℕ) → Leaves h s desk time (finish s time closed o)
-  closes o = finish-leaves closed o (closed-named desk time) none (λ m. closed-sane)
+  closes : (time : ℕ) (o : List ℕ) → Leaves h s desk t (finish s time closed o)
+  closes time o = finish-leaves time closed o (closed-named desk t) none (λ m. closed-sane)
 
-  completed-leaves : (used next : ℕ) (q : Place) → Named desk time q → (s .place .used ≡ false → Passed h) → (Sane (s .place) → Sane q)
-      → L (completed s time used next q)
+  completed-leaves : (time used : ℕ) (next : Time) (q : Place) → Named desk t q → (s .place .used ≡ false → Passed h)
+      → (Sane (s .place) → Sane q) → L (completed s time used next q)
   unfolding completed
-  completed-leaves used next q n k m =
+  completed-leaves time used next q n k m =
       each L _ _ _ (λ e. record { named = n; row = refl; marks = refl; store = refl; new = λ u. k; sane = m })
-      (λ e. each L _ _ _ (λ e. closes _) (λ e. closes _))
+      (λ e. each L _ _ _ (λ e. closes _ _) (λ e. closes _ _))
 
   -- q is the sample that the part belongs to
-  joining-leaves : (used next : ℕ) (q : Place) (x : P.Part) (d : List ℕ) → Named desk time (kept q x d)
+  joining-leaves : (time used : ℕ) (next : Time) (q : Place) (x : P.Part) (d : List ℕ) → Named desk t (kept q x d)
       → (conflicts q x ≡ false → oversize q x (length d) ≡ false → Sane (s .place) → Sane (kept q x d))
       → L (joining h s time used next q x d)
   unfolding joining
-  joining-leaves used next q x d n m =
+  joining-leaves time used next q x d n m =
       each L _ _ _ (λ e. stay-leaves)
       (λ e. each L _ _ _ (λ e. stay-leaves)
       (λ e. each L _ _ _ (λ e. stay-leaves)
       (λ f₂. each L _ _ _ (λ e. stay-leaves)
       (λ f₃. each L _ _ _ (λ e. stay-leaves)
       (λ a. each L _ _ _ (λ e. stay-leaves)
-      (λ b. completed-leaves used next (kept q x d) n (λ f. passes (s .place) h f a b) (m f₂ f₃)))))))
+      (λ b. completed-leaves time used next (kept q x d) n (λ f. passes (s .place) h f a b) (m f₂ f₃)))))))
 
-  sample-open : (x : P.Part) → (sampleOf (s .place) desk time x .used ≡ true) × ((sampleOf (s .place) desk time x .desk ≡ desk) × (sampleOf (s .place) desk time x .time ≡ time))
+  sample-open : (time : ℕ) → t ≡ Known time → (x : P.Part) → let q = sampleOf (s .place) desk time x in
+      (q .used ≡ true) × ((q .desk ≡ desk) × (isTime t (q .time) ≡ true))
   unfolding sampleOf bare
-  sample-open x =
-      each (λ (q : Place). (q .used ≡ true) × ((q .desk ≡ desk) × (q .time ≡ time))) _ _ _ (λ u. (u, named .name u)) (λ u. (refl, (refl, refl)))
+  sample-open time e x =
+      each (λ (q : Place). (q .used ≡ true) × ((q .desk ≡ desk) × (isTime t (q .time) ≡ true))) _ _ _ (λ u. (u, named .name u))
+      (λ u. (refl, (refl, ap (λ (v : Time). isTime v time) e ∙ eq time time refl)))
 
-  kept-named : (x : P.Part) (d : List ℕ) → Named desk time (kept (sampleOf (s .place) desk time x) x d)
-  kept-named x d =
+  kept-named : (time : ℕ) → t ≡ Known time → (x : P.Part) (d : List ℕ) → Named desk t (kept (sampleOf (s .place) desk time x) x d)
+  kept-named time k x d =
       let q = sampleOf (s .place) desk time x in
       let e = keep-named q x d in
-      let o = sample-open x in
+      let o = sample-open time k x in
       record {
-        name = λ u. (ap (λ (n : Name). n .desk) e ∙ o .1 .0, ap (λ (n : Name). n .time) e ∙ o .1 .1);
+        name = λ u. (ap (λ (n : Name). n .desk) e ∙ o .1 .0, ap (λ (n : Name). isTime t (n .time)) e ∙ o .1 .1);
         free = λ f. absurd (true≢false (sym (o .0) ∙ sym (ap (λ (n : Name). n .used) e) ∙ f));
       }
 
-  taken-leaves : (used : ℕ) (rest : List ℕ) (x : Unit) → Counted x → WellText x (dataOf rest x) → L (taken h s desk time used rest x)
+  taken-leaves : (used : ℕ) (rest : List ℕ) (x : Unit) → Counted x → WellText x (dataOf rest x) → L (taken h s desk t used rest x)
   unfolding descriptionTaken
   taken-leaves used rest End c k = stay-leaves
-  taken-leaves used rest (Skipped t) c k = stay-leaves
+  taken-leaves used rest (Skipped y) c k = stay-leaves
   taken-leaves used rest (Refused r) c k = stay-leaves
-  taken-leaves used rest (Whole w) c k = whole-leaves used w (dataOf rest (Whole w))
+  taken-leaves used rest (Whole w) c k =
+      at-times (λ u. L) s used _ (λ time. whole-leaves time used _ w (dataOf rest (Whole w))) stay-leaves t
   taken-leaves used rest (Part x) c k =
       let d = dataOf rest (Part x) in
-      let q = sampleOf (s .place) desk time x in
-      joining-leaves used _ q x d (kept-named x d) (λ a b m. part-sane (s .place) m desk time x d c k a b)
+      at-times (λ (u : Time) (a : After). t ≡ u → L a) s used _
+      (λ time e.
+      joining-leaves time used _ (sampleOf (s .place) desk time x) x d (kept-named time e x d)
+      (λ a b m. part-sane (s .place) m desk time x d c k a b))
+      (λ e. stay-leaves) t refl
   taken-leaves used rest (Description w) c k = record {
     named = named;
     row = refl;
@@ -172,16 +183,16 @@ module _ (h : Shares) (s : Own) (desk time : ℕ) (named : Named desk time (s .p
     sane = λ m. m;
   }
 
-  pub ordered-leaves : (one : Bool) (rest : List ℕ) → Leaves h s desk time (ordered one h s desk time rest .own)
+  pub ordered-leaves : (one : Bool) (rest : List ℕ) → Leaves h s desk t (ordered one h s desk t rest .own)
   unfolding ordered received
   ordered-leaves one rest =
       each L _ _ _ (λ e. stay-leaves)
       (λ e. each L _ _ _ (λ e. stay-leaves)
       (λ e. taken-leaves (readOf rest .used) rest (readOf rest .unit) (reads-counted rest) (read-well rest)))
 
-  pub yielded-leaves : (one : Bool) → Leaves h s desk time (yielded one s time .own)
+  pub yielded-leaves : (one : Bool) (time : ℕ) → Leaves h s desk t (yielded one s time .own)
   unfolding yielded givenUp
-  yielded-leaves one = each G _ _ _ (λ e. stay-leaves) (λ e. each G _ _ _ (λ u. closes _) (λ u. stay-leaves))
+  yielded-leaves one time = each G _ _ _ (λ e. stay-leaves) (λ e. each G _ _ _ (λ u. closes _ _) (λ u. stay-leaves))
     where
       G : Given → Type 0
-      G g = Leaves h s desk time (g .own)
+      G g = Leaves h s desk t (g .own)

@@ -1,5 +1,5 @@
 -- What `placed` does to the open samples of the desk that calls, and that it does nothing to those of every other desk. (d, t) is the
--- desk and time of the call. Assumes nothing.
+-- desk and time of the call; at an unknown time no sample is open. Assumes nothing.
 use Prim.Native.Nat.{ℕ, _+_, _≤_, _<_}
 use native.Mathlib.Decide.{decLt}
 use native.Mathlib.Omega.{arith}
@@ -12,17 +12,24 @@ use lib.ListN.{length, getD, List·getD-eq-default}
 use lib.Seq.{set-out}
 use Rattle.laws.specs.Rows.{each, eq, ne, eq-of, lt-of, ge-of, and-is, and-of, not-is}
 use Rattle.laws.specs.Table.{bit, seek, first, count, seek-hit, seek-first, seek-none, count-zero, count-set, first-set-here, first-set-other}
+use Rattle.paper.specs.declared.Time.{Time}
+use Rattle.paper.specs.declared.Time.the-variants.{Known, Unknown}
 use Rattle.sample.specs.declared.Place.{Place}
 use Rattle.sample.specs.Place.{bare, closed}
-use Rattle.memory.specs.Table.{vacant, mine, isAt}
+use Rattle.memory.specs.Table.{vacant, mine, isTime, isAt}
 use Rattle.memory.specs.Relay.{openAt, standsAt, placed, isOpen}
 use Rattle.memory.specs.Counted.{is-open, is-none}
 
--- ---- where a place is open, it is the desk's sample of that time; and a named one is closed otherwise
-abbrev pub Its : (d t : ℕ) → Place → Type 0
-Its d t y = y .used ≡ true → (y .desk ≡ d) × (y .time ≡ t)
+-- ---- a number that is the running time: that is known, and is the number
+pub time-of : (t : Time) (u : ℕ) → isTime t u ≡ true → t ≡ Known u
+time-of (Known time) u e = ap Known (sym (eq-of u time e))
+time-of Unknown u e = absurd (true≢false (sym e))
 
-pub record Named (d t : ℕ) (p : Place) : Type 0 where
+-- ---- where a place is open, it is the desk's sample of that time; and a named one is closed otherwise
+abbrev pub Its : (d : ℕ) → Time → Place → Type 0
+Its d t y = y .used ≡ true → (y .desk ≡ d) × (isTime t (y .time) ≡ true)
+
+pub record Named (d : ℕ) (t : Time) (p : Place) : Type 0 where
   pub name : Its d t p
   pub free : p .used ≡ false → p ≡ closed
 
@@ -33,44 +40,46 @@ closed-free p e = ap (λ (y : Place). y .used) e
 unused : (p : Place) {A : Type 0} → p .used ≡ false → p .used ≡ true → A
 unused p f u = absurd (true≢false (sym u ∙ f))
 
-pub closed-named : (d t : ℕ) → Named d t closed
+pub closed-named : (d : ℕ) (t : Time) → Named d t closed
 closed-named d t = record { name = unused closed (closed-free closed refl); free = λ f. refl }
 
 -- ---- the tests on such a place: one passes exactly if it is open, or never does
-abbrev Sees : (d t : ℕ) → (Place → Bool) → Type 0
+abbrev Sees : (d : ℕ) → Time → (Place → Bool) → Type 0
 Sees d t q = (y : Place) → Its d t y → q y ≡ y .used
 
-abbrev Blind : (d t : ℕ) → (Place → Bool) → Type 0
+abbrev Blind : (d : ℕ) → Time → (Place → Bool) → Type 0
 Blind d t q = (y : Place) → Its d t y → q y ≡ false
 
-mine-sees : (d t : ℕ) → Sees d t (mine d)
+mine-sees : (d : ℕ) (t : Time) → Sees d t (mine d)
 mine-sees d t y h = each (λ (b : Bool). b ≡ y .used) _ _ _ (λ u. eq _ _ (h u .0) ∙ sym u) (λ u. sym u)
 
-mine-blind : (d t e : ℕ) → e ≢ d → Blind d t (mine e)
+mine-blind : (d : ℕ) (t : Time) (e : ℕ) → e ≢ d → Blind d t (mine e)
 mine-blind d t e n y h = each (λ (b : Bool). b ≡ false) _ _ _ (λ u. ne _ _ (λ q. n (sym q ∙ h u .0))) (λ u. refl)
 
-isAt-sees : (d t : ℕ) → Sees d t (isAt d t)
-isAt-sees d t y h = each (λ (b : Bool). b ≡ y .used) _ _ _ (λ u. and-is _ _ (eq _ _ (h u .0)) (eq _ _ (h u .1)) ∙ sym u) (λ u. sym u)
+isAt-sees : (d : ℕ) (t : Time) → Sees d t (isAt d t)
+isAt-sees d t y h = each (λ (b : Bool). b ≡ y .used) _ _ _ (λ u. and-is _ _ (eq _ _ (h u .0)) (h u .1) ∙ sym u) (λ u. sym u)
 
-isAt-blind : (d t e u : ℕ) → (e ≡ d → u ≡ t → ⊥) → Blind d t (isAt e u)
+isAt-blind : (d : ℕ) (t : Time) (e u : ℕ) → (e ≡ d → isTime t u ≡ false) → Blind d t (isAt e (Known u))
 isAt-blind d t e u n y h =
     each (λ (b : Bool). b ≡ false) _ _ _
-    (λ k. each (λ (b : Bool). b ≡ false) _ _ _ (λ a. ne _ _ (λ q. n (sym (eq-of _ _ a) ∙ h k .0) (sym q ∙ h k .1))) (λ a. refl))
+    (λ k. each (λ (b : Bool). b ≡ false) _ _ _
+    (λ a. ne _ _ (λ q. true≢false (sym (h k .1) ∙ ap (isTime t) q ∙ n (sym (eq-of _ _ a) ∙ h k .0)))) (λ a. refl))
     (λ k. refl)
 
 -- ---- the open sample of (d, t)
 either : {P : Type 0} (a b : ℕ) → (a < b → P) → (b ≤ a → P) → P
 either a b h k = elim (decLt a b) [ yes l ↦ h l | no l ↦ k (omega arith) ]
 
-module _ (d t : ℕ) (l : List Place) where
+module _ (d : ℕ) (t : Time) (l : List Place) where
   absent : length l ≤ seek (isAt d t) l → openAt d t l ≡ closed
   absent h = List·getD-eq-default l closed h
 
-  present : seek (isAt d t) l < length l → (openAt d t l .used ≡ true) × ((openAt d t l .desk ≡ d) × (openAt d t l .time ≡ t))
+  present : seek (isAt d t) l < length l
+      → (openAt d t l .used ≡ true) × ((openAt d t l .desk ≡ d) × (isTime t (openAt d t l .time) ≡ true))
   present h =
       let a = and-of _ _ (seek-hit (isAt d t) l closed h) in
       let b = and-of _ _ (a .1) in
-      (a .0, (eq-of _ _ (b .0), eq-of _ _ (b .1)))
+      (a .0, (eq-of _ _ (b .0), b .1))
 
   pub open-named : Named d t (openAt d t l)
   open-named =
@@ -82,22 +91,22 @@ module _ (d t : ℕ) (l : List Place) where
   open-none f = either (seek (isAt d t) l) (length l) (λ h. unused (openAt d t l) f (present h .0)) (λ h. seek-none (isAt d t) l h)
 
 -- ---- p has become the desk's sample of the time: what the desk, and every other, sees of l and of k
-pub record Moved (d t : ℕ) (p : Place) (l k : List Place) : Type 0 where
+pub record Moved (d : ℕ) (t : Time) (p : Place) (l k : List Place) : Type 0 where
   pub own-mine : count (mine d) k + bit (openAt d t l .used) ≡ count (mine d) l + bit (p .used)
   pub own-isAt : count (isAt d t) k + bit (openAt d t l .used) ≡ count (isAt d t) l + bit (p .used)
   pub own-open : count (isAt d t) l ≤ 1 → openAt d t k ≡ p
   pub other-mine : (e : ℕ) → e ≢ d → count (mine e) k ≡ count (mine e) l
-  pub other-isAt : (e u : ℕ) → (e ≡ d → u ≡ t → ⊥) → count (isAt e u) k ≡ count (isAt e u) l
-  pub other-open : (e u : ℕ) → (e ≡ d → u ≡ t → ⊥) → openAt e u k ≡ openAt e u l
+  pub other-isAt : (e u : ℕ) → (e ≡ d → isTime t u ≡ false) → count (isAt e (Known u)) k ≡ count (isAt e (Known u)) l
+  pub other-open : (e u : ℕ) → (e ≡ d → isTime t u ≡ false) → openAt e (Known u) k ≡ openAt e (Known u) l
 
 -- p stands at i: no test tells what stood there from the open sample of (d, t)
-record Stands (d t : ℕ) (p : Place) (l : List Place) (i : ℕ) : Type 0 where
+record Stands (d : ℕ) (t : Time) (p : Place) (l : List Place) (i : ℕ) : Type 0 where
   ahead : i ≤ seek (isAt d t) l
   past : length l ≤ i → p ≡ closed
   its : Its d t (getD l i closed)
   alike : getD l i closed .used ≡ openAt d t l .used
 
-module _ (d t : ℕ) (p : Place) (l : List Place) (named : Named d t p)
+module _ (d : ℕ) (t : Time) (p : Place) (l : List Place) (named : Named d t p)
     (room : p .used ≡ true → openAt d t l .used ≡ false → seek vacant l < length l) where
   stands : Stands d t p l (standsAt d t p l)
   unfolding standsAt
@@ -149,7 +158,7 @@ module _ (d t : ℕ) (p : Place) (l : List Place) (named : Named d t p)
       go true u = rw (first-set-here (isAt d t) l (standsAt d t p l) p (inside u) (stands .ahead) (isAt-sees d t p (named .name) ∙ u))
       go false f = rw (count-zero (isAt d t) (placed d t p l) (gone f once)) (sym (named .free f))
 
-  still-open : (e u : ℕ) → Blind d t (isAt e u) → openAt e u (placed d t p l) ≡ openAt e u l
+  still-open : (e : ℕ) (u : Time) → Blind d t (isAt e u) → openAt e u (placed d t p l) ≡ openAt e u l
   still-open e u b =
       seek-first (isAt e u) (placed d t p l) closed
       ∙ ap (λ (o : Option Place). Option·getD o closed)
@@ -162,6 +171,6 @@ module _ (d t : ℕ) (p : Place) (l : List Place) (named : Named d t p)
     own-isAt = counted (isAt d t) (isAt-sees d t);
     own-open = now-open;
     other-mine = λ e n. uncounted (mine e) (mine-blind d t e n);
-    other-isAt = λ e u n. uncounted (isAt e u) (isAt-blind d t e u n);
-    other-open = λ e u n. still-open e u (isAt-blind d t e u n);
+    other-isAt = λ e u n. uncounted (isAt e (Known u)) (isAt-blind d t e u n);
+    other-open = λ e u n. still-open e (Known u) (isAt-blind d t e u n);
   }

@@ -12,6 +12,9 @@ use Rattle.laws.specs.Rows.{_⇒_⁏_, _or_, or-none}
 use Rattle.laws.specs.Region.{splice}
 use Rattle.paper.specs.Limits.{finishedMost, marksEach, storeSize, headSize, places, marksNeed, storesNeed}
 use Rattle.paper.specs.declared.Name.{Name}
+use Rattle.paper.specs.declared.Sender.{Sender}
+use Rattle.paper.specs.declared.Time.{Time}
+use Rattle.paper.specs.declared.Time.the-variants.{Known}
 use Rattle.sample.specs.declared.Place.{Place}
 use Rattle.style.specs.Shown.{shown}
 use Rattle.desk.specs.Desk.{Own, After, Given, own, newestOf}
@@ -24,25 +27,26 @@ use Rattle.good.specs.Counts.{recounted-length, recounted-desks, recount
 use Rattle.good.specs.Good.{Good, shares-are, below}
 
 -- ---- receive, by the shares as a walk finds them; the desk's own things are put back, and nothing is counted
-abbrev pub walkedSettled : (n : ℕ) → Tables → (desk time : ℕ) → After → Done
-walkedSettled n s desk time a = done (putOwn n s desk time (a .own)) (a .own .out) (a .answer)
+abbrev pub walkedSettled : (n : ℕ) → Tables → (desk : ℕ) → Time → After → Done
+walkedSettled n s desk t a = done (putOwn n s desk t (a .own)) (a .own .out) (a .answer)
 
-unfoldable pub walkedAmong : (n : ℕ) → Tables → (desk time : ℕ) → (rest out : List ℕ) → Done
-walkedAmong n s desk time rest out =
-    walkedSettled n s desk time
-    (ordered (stranger n desk or lacking n s) (sharesOf n desk (placesOf n s)) (ownOf n s desk time out) desk time rest)
+unfoldable pub walkedAmong : (n : ℕ) → Tables → (desk : ℕ) → Time → (rest out : List ℕ) → Done
+walkedAmong n s desk t rest out =
+    walkedSettled n s desk t
+    (ordered (stranger n desk or lacking n s) (sharesOf n desk (placesOf n s)) (ownOf n s desk t out) desk t rest)
 
-abbrev pub walkedAt : Tables → Name → (rest out : List ℕ) → Done
+abbrev pub walkedAt : Tables → Sender → (rest out : List ℕ) → Done
 walkedAt s who rest out = walkedAmong (desksOf (s .marks)) s (who .desk) (who .time) rest out
 
 -- ---- give-up
 abbrev pub walkedReturned : (n : ℕ) → Tables → (desk time : ℕ) → Given → Released
-walkedReturned n s desk time a = released (putOwn n s desk time (a .own)) (a .answer)
+walkedReturned n s desk time a = released (putOwn n s desk (Known time) (a .own)) (a .answer)
 
 unfoldable pub walkedGivenUpAmong : (n : ℕ) → Tables → (desk time : ℕ) → Released
 walkedGivenUpAmong n s desk time =
     walkedReturned n s desk time
-    (yielded (stranger n desk or lacksThree n (length (s .places)) (length (s .rows)) (length (s .marks))) (ownOf n s desk time []) time)
+    (yielded (stranger n desk or lacksThree n (length (s .places)) (length (s .rows)) (length (s .marks)))
+    (ownOf n s desk (Known time) []) time)
 
 abbrev pub walkedGivenUp : Tables → Name → Released
 walkedGivenUp s who = walkedGivenUpAmong (desksOf (s .marks)) s (who .desk) (who .time)
@@ -113,27 +117,27 @@ lookup-alike s r a desk index book =
     ⁏ shown book (storeOf desk (a .stores i)) (newestOf (marks-alike s r a desk i)) index)
 
 -- ---- a call of good tables, and one of the relay that walks in tables like them
-module _ (n : ℕ) (s r : Tables) (g : Good n s) (a : Alike s r) (desk time : ℕ) where
-  own-alike : (out : List ℕ) → ownOf n s desk time out ≡ ownOf n r desk time out
+module _ (n : ℕ) (s r : Tables) (g : Good n s) (a : Alike s r) (desk : ℕ) (t : Time) where
+  own-alike : (out : List ℕ) → ownOf n s desk t out ≡ ownOf n r desk t out
   own-alike out = λ i.
-      own (openAt desk time (take (places n) (a .places i))) (rowOf desk (a .rows i)) (marks-alike s r a desk i)
+      own (openAt desk t (take (places n) (a .places i))) (rowOf desk (a .rows i)) (marks-alike s r a desk i)
       (storeOf desk (a .stores i)) out
 
   shares-alike : desk < n → storedShares n desk (s .marks) ≡ sharesOf n desk (placesOf n r)
   shares-alike h = shares-are n desk s g h ∙ ap (λ (l : List Place). sharesOf n desk (take (places n) l)) (a .places)
 
   -- what it leaves, put back
-  put-alike : desk < n → (o : Own) → Alike (putBack n s desk time o) (putOwn n r desk time o)
+  put-alike : desk < n → (o : Own) → Alike (putBack n s desk t o) (putOwn n r desk t o)
   put-alike h o =
       let m = marksEach * desk in
       let l : headSize ≤ length (s .marks) = omega (arith, g .marks) in
       let k : headSize ≤ length (r .marks) = omega (arith, a .long) in
       let put : List ℕ → List ℕ = splice m marksEach (o .marks) in
-      let was = wasOpen desk time (placesOf n s) in
-      let is = isOpen desk time (o .place) (placesOf n s) in
+      let was = wasOpen desk t (placesOf n s) in
+      let is = isOpen desk t (o .place) (placesOf n s) in
       let back = splice (headSize + m) marksEach (o .marks) (s .marks) in
       record {
-        places = ap (λ (l : List Place). placed desk time (o .place) (take (places n) l) ++ drop (places n) l) (a .places);
+        places = ap (λ (l : List Place). placed desk t (o .place) (take (places n) l) ++ drop (places n) l) (a .places);
         rows = ap (splice (finishedMost * desk) finishedMost (o .row)) (a .rows);
         stores = ap (splice (storeSize * desk) storeSize (o .store)) (a .stores);
         desks =
@@ -148,43 +152,45 @@ module _ (n : ℕ) (s r : Tables) (g : Good n s) (a : Alike s r) (desk time : �
       }
 
   -- or nothing left but what stood
-  still-alike : (out : List ℕ) → Alike (putBack n s desk time (ownOf n s desk time out)) (putOwn n r desk time (ownOf n r desk time out))
-  still-alike out = rw (put-same n s desk time out, own-same n r desk time out) a
+  still-alike : (out : List ℕ) → Alike (putBack n s desk t (ownOf n s desk t out)) (putOwn n r desk t (ownOf n r desk t out))
+  still-alike out = rw (put-same n s desk t out, own-same n r desk t out) a
 
-  receive-among : (rest out : List ℕ) → AsWalked (receivedAmong n s desk time rest out) (walkedAmong n r desk time rest out)
+  receive-among : (rest out : List ℕ) → AsWalked (receivedAmong n s desk t rest out) (walkedAmong n r desk t rest out)
   unfolding receivedAmong walkedAmong ordered _⇒_⁏_
   receive-among rest out =
       subst
-      (λ (w : Bool). AsWalked (receivedAmong n s desk time rest out)
-      (walkedSettled n r desk time (ordered (stranger n desk or w) (sharesOf n desk (placesOf n r)) (ownOf n r desk time out) desk time rest)))
+      (λ (w : Bool). AsWalked (receivedAmong n s desk t rest out)
+      (walkedSettled n r desk t (ordered (stranger n desk or w) (sharesOf n desk (placesOf n r)) (ownOf n r desk t out) desk t rest)))
       lack (go (stranger n desk or lacking n s) refl)
     where
       lack : lacking n s ≡ lacking n r
       lack = λ i. lacks n (length (a .places i)) (length (a .rows i)) (a .long i) (length (a .stores i))
 
       go : (one : Bool) → (stranger n desk or lacking n s) ≡ one
-          → AsWalked (settled n s desk time (ordered one (storedShares n desk (s .marks)) (ownOf n s desk time out) desk time rest))
-          (walkedSettled n r desk time (ordered one (sharesOf n desk (placesOf n r)) (ownOf n r desk time out) desk time rest))
+          → AsWalked (settled n s desk t (ordered one (storedShares n desk (s .marks)) (ownOf n s desk t out) desk t rest))
+          (walkedSettled n r desk t (ordered one (sharesOf n desk (placesOf n r)) (ownOf n r desk t out) desk t rest))
       go true e = record { answer = refl; out = refl; tables = still-alike out }
       go false e =
           let h = below n desk (or-none _ _ e .0) in
-          let stored = ordered false (storedShares n desk (s .marks)) (ownOf n s desk time out) desk time rest in
-          let walked = ordered false (sharesOf n desk (placesOf n r)) (ownOf n r desk time out) desk time rest in
-          let q : stored ≡ walked = (λ i. ordered false (shares-alike h i) (own-alike out i) desk time rest) in
+          let stored = ordered false (storedShares n desk (s .marks)) (ownOf n s desk t out) desk t rest in
+          let walked = ordered false (sharesOf n desk (placesOf n r)) (ownOf n r desk t out) desk t rest in
+          let q : stored ≡ walked = (λ i. ordered false (shares-alike h i) (own-alike out i) desk t rest) in
           record {
             answer = ap (λ (x : After). x .answer) q;
             out = ap (λ (x : After). x .own .out) q;
             tables =
-                subst (λ (x : After). Alike (putBack n s desk time (stored .own)) (putOwn n r desk time (x .own))) q
+                subst (λ (x : After). Alike (putBack n s desk t (stored .own)) (putOwn n r desk t (x .own))) q
                 (put-alike h (stored .own));
           }
 
+-- and a give-up, at the time of its sample
+module _ (n : ℕ) (s r : Tables) (g : Good n s) (a : Alike s r) (desk time : ℕ) where
   give-up-among : GivenUpAsWalked (givenUpAmong n s desk time) (walkedGivenUpAmong n r desk time)
   unfolding givenUpAmong walkedGivenUpAmong yielded _⇒_⁏_
   give-up-among =
       subst
       (λ (w : Bool). GivenUpAsWalked (givenUpAmong n s desk time)
-      (walkedReturned n r desk time (yielded (stranger n desk or w) (ownOf n r desk time []) time)))
+      (walkedReturned n r desk time (yielded (stranger n desk or w) (ownOf n r desk (Known time) []) time)))
       lack (go (stranger n desk or lacksThree n (length (s .places)) (length (s .rows)) (length (s .marks))) refl)
     where
       lack : lacksThree n (length (s .places)) (length (s .rows)) (length (s .marks))
@@ -192,38 +198,38 @@ module _ (n : ℕ) (s r : Tables) (g : Good n s) (a : Alike s r) (desk time : �
       lack = λ i. lacksThree n (length (a .places i)) (length (a .rows i)) (a .long i)
 
       go : (one : Bool) → (stranger n desk or lacksThree n (length (s .places)) (length (s .rows)) (length (s .marks))) ≡ one
-          → GivenUpAsWalked (returned n s desk time (yielded one (ownOf n s desk time []) time))
-          (walkedReturned n r desk time (yielded one (ownOf n r desk time []) time))
-      go true e = record { answer = refl; tables = still-alike [] }
+          → GivenUpAsWalked (returned n s desk time (yielded one (ownOf n s desk (Known time) []) time))
+          (walkedReturned n r desk time (yielded one (ownOf n r desk (Known time) []) time))
+      go true e = record { answer = refl; tables = still-alike n s r g a desk (Known time) [] }
       go false e =
-          let stored = yielded false (ownOf n s desk time []) time in
-          let q = ap (λ (o : Own). yielded false o time) (own-alike []) in
+          let stored = yielded false (ownOf n s desk (Known time) []) time in
+          let q = ap (λ (o : Own). yielded false o time) (own-alike n s r g a desk (Known time) []) in
           record {
             answer = ap (λ (x : Given). x .answer) q;
             tables =
-                subst (λ (x : Given). Alike (putBack n s desk time (stored .own)) (putOwn n r desk time (x .own))) q
-                (put-alike (below n desk (or-none _ _ e .0)) (stored .own));
+                subst (λ (x : Given). Alike (putBack n s desk (Known time) (stored .own)) (putOwn n r desk (Known time) (x .own))) q
+                (put-alike n s r g a desk (Known time) (below n desk (or-none _ _ e .0)) (stored .own));
           }
 
 -- the number of desks is read in the head
-module _ (n : ℕ) (s r : Tables) (g : Good n s) (a : Alike s r) (who : Name) where
+module _ (n : ℕ) (s r : Tables) (g : Good n s) (a : Alike s r) where
   heads : (desksOf (s .marks) ≡ n) × (desksOf (r .marks) ≡ n)
   heads = (g .head, sym (a .desks) ∙ g .head)
 
-  pub receive-alike : (rest out : List ℕ) → AsWalked (receivedAt s who rest out) (walkedAt r who rest out)
-  receive-alike rest out =
+  pub receive-alike : (who : Sender) (rest out : List ℕ) → AsWalked (receivedAt s who rest out) (walkedAt r who rest out)
+  receive-alike who rest out =
       subst (λ (k : ℕ). AsWalked (receivedAmong k s (who .desk) (who .time) rest out) (walkedAt r who rest out)) (sym (heads .0))
       (subst (λ (k : ℕ). AsWalked (receivedAmong n s (who .desk) (who .time) rest out) (walkedAmong k r (who .desk) (who .time) rest out))
       (sym (heads .1)) (receive-among n s r g a (who .desk) (who .time) rest out))
 
-  pub give-up-alike : GivenUpAsWalked (givenUpAt s who) (walkedGivenUp r who)
-  give-up-alike =
+  pub give-up-alike : (who : Name) → GivenUpAsWalked (givenUpAt s who) (walkedGivenUp r who)
+  give-up-alike who =
       subst (λ (k : ℕ). GivenUpAsWalked (givenUpAmong k s (who .desk) (who .time)) (walkedGivenUp r who)) (sym (heads .0))
       (subst (λ (k : ℕ). GivenUpAsWalked (givenUpAmong n s (who .desk) (who .time)) (walkedGivenUpAmong k r (who .desk) (who .time)))
       (sym (heads .1)) (give-up-among n s r g a (who .desk) (who .time)))
 
 -- ---- in the same good tables
-pub as-walked : (n : ℕ) (s : Tables) → Good n s → (who : Name) (rest out : List ℕ)
+pub as-walked : (n : ℕ) (s : Tables) → Good n s → (who : Sender) (rest out : List ℕ)
     → AsWalked (receivedAt s who rest out) (walkedAt s who rest out)
 as-walked n s g = receive-alike n s s g (itself s)
 

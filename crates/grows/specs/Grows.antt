@@ -6,6 +6,7 @@ use mathlib.Core.List.{List}
 use lib.ListN.{length}
 use Rattle.laws.specs.Rows.{yes, each, no}
 use Rattle.paper.specs.declared.Refusal.the-variants as R
+use Rattle.paper.specs.declared.Time.{Time}
 use Rattle.paper.specs.declared.Outcome.the-variants as O
 use Rattle.unit.specs.declared.Part.{Part}
 use Rattle.sample.specs.declared.Place.{Place}
@@ -25,7 +26,8 @@ unfolding usedUp
 not-used-up p h u = yes _ _ u refl
 
 -- ---- the order for parts: each test that was passed, and the answer of the next
-module _ (h : Shares) (s : Own) (time used next : ℕ) (q : Place) (x : P.Part) (d : List ℕ) (b₁ : Bool) (l₁ : b₁ ≡ isLate s time) where
+module _ (h : Shares) (s : Own) (time used : ℕ) (next : Time) (q : Place) (x : P.Part) (d : List ℕ) (b₁ : Bool)
+    (l₁ : b₁ ≡ isLate s time) where
   pub join-late : b₁ ≡ true → (r : Turn) → r ≡ answering (s .place) used next (O.Refused R.Late)
       → left r (s .row) (s .marks) (s .store) (s .out) ≡ joining h s time used next q x d
   unfolding joining

@@ -3,6 +3,7 @@ use asks::Settled;
 use desk::Shares;
 use paper::Outcome;
 use paper::Refusal;
+use paper::Time;
 use paper::limits::PARTS_MOST;
 use paper::limits::SAMPLE_MOST;
 use sample::Head;
@@ -25,7 +26,7 @@ pub fn join(
     marks: &mut [u32],
     time: u32,
     used: usize,
-    next: u32,
+    next: Time,
     x: Part,
     d: &[u8],
     out: &mut [u8],

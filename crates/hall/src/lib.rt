@@ -2,6 +2,7 @@
 use desk::GivenUp;
 use paper::Answer;
 use paper::Name;
+use paper::Sender;
 use paper::limits::MARKS_MOST;
 use paper::limits::PLACES_MOST;
 use paper::limits::ROWS_MOST;
@@ -52,7 +53,7 @@ pub fn set_up(n: usize) -> Hall
 }
 
 // One call of a desk.
-pub fn receive(h: Hall, who: Name, rest: &[u8]) -> Heard
+pub fn receive(h: Hall, who: Sender, rest: &[u8]) -> Heard
     ensures { λ r. ⌜ heard r ≡ receivedAt (tablesOf h) who (now (rest .entry)) (h .out) ⌝ }
 {
     let places = h.places;

@@ -4,6 +4,7 @@ use desk::GivenUp;
 use memory::Started;
 use paper::Answer;
 use paper::Name;
+use paper::Sender;
 use paper::limits::PLACES_MOST;
 use sample::Place;
 ghost use mathlib.Core.Path.{_≡_};
@@ -62,7 +63,7 @@ pub fn receive(
     rows: &mut [u32],
     marks: &mut [u32],
     stores: &mut [u8],
-    who: Name,
+    who: Sender,
     rest: &[u8],
     out: &mut [u8],
 ) -> Called

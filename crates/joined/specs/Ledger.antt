@@ -10,8 +10,10 @@ use Rattle.laws.specs.Rows.{_⇒_⁏_, _=?_}
 use Rattle.laws.specs.Sums.{sum}
 use Rattle.laws.specs.Table.{bit}
 use Rattle.paper.specs.Limits.{sampleMost, partsMost}
-use Rattle.paper.specs.Words.{numberOf}
+use Rattle.paper.specs.Words.{numberOf, byTime}
 use Rattle.paper.specs.declared.Facts.{Facts}
+use Rattle.paper.specs.declared.Time.{Time}
+use Rattle.paper.specs.declared.Time.the-variants.{Known, Unknown}
 use Rattle.paper.specs.declared.Outcome.{Outcome}
 use Rattle.paper.specs.declared.Outcome.the-variants as O
 use Rattle.joining.specs.Joining.{Piece, piece, kinds, together, stringOf, ordered, sound}
@@ -22,6 +24,7 @@ use Rattle.unit.specs.Layout.{readOf, dataOf}
 use Rattle.sample.specs.Arrival.{inOrder}
 use Rattle.desk.specs.declared.GivenUp.{GivenUp}
 use Rattle.desk.specs.declared.GivenUp.the-variants as G
+use Rattle.memory.specs.Table.{isTime}
 use Rattle.peace.specs.Run.{Call, receive, give-up, lookup, Got, answered, released, shown}
 
 -- ---- a part that was kept, with its data; what was kept of one sample, by THIS; and of each of the desk's samples, by its time
@@ -40,6 +43,10 @@ Ledger = ℕ → Parts
 
 abbrev pub nothing : Parts
 nothing = λ k. none
+
+-- the page that a call is about; at an unknown time nothing is kept
+abbrev pub pageAt : Ledger → Time → Parts
+pageAt L t = byTime t L nothing
 
 -- part x with the data d is kept as well
 abbrev pub adding : Parts → P.Part → List ℕ → Parts
@@ -72,7 +79,7 @@ givenUpBy E G.Freed = nothing
 givenUpBy E (G.Refused r) = E
 
 abbrev pub ledgerAfter : Ledger → Call → Got → Ledger
-ledgerAfter L (receive desk at rest out) (answered a o) = λ t. t =? at ⇒ enteredBy (L t) rest (readOf rest .unit) (a .outcome) ⁏ L t
+ledgerAfter L (receive desk at rest out) (answered a o) = λ t. isTime at t ⇒ enteredBy (L t) rest (readOf rest .unit) (a .outcome) ⁏ L t
 ledgerAfter L (receive desk at rest out) (released a) = L
 ledgerAfter L (receive desk at rest out) (shown d) = L
 ledgerAfter L (give-up desk at) (answered a o) = L
@@ -152,17 +159,29 @@ NoPart O.Described = Prim.Unit {0}
 NoPart (O.Skipped t) = Prim.Unit {0}
 NoPart (O.Refused r) = numberOf r ≡ 10 → ⊥
 
-abbrev pub SaysUnit : Parts → (time : ℕ) → (rest out : List ℕ) → U.Unit → Outcome → (o : List ℕ) → Type 0
-SaysUnit E time rest out End x o = NoPart x
-SaysUnit E time rest out (Skipped t) x o = NoPart x
-SaysUnit E time rest out (Refused r) x o = NoPart x
-SaysUnit E time rest out (Whole w) x o = NoPart x
-SaysUnit E time rest out (Part p) x o = SaysPart E time p (dataOf rest (Part p)) out x o
-SaysUnit E time rest out (Description w) x o = NoPart x
+-- a part at an unknown time is not taken: it is refused, and spoils nothing
+abbrev pub Untaken : Outcome → Type 0
+Untaken O.End = ⊥
+Untaken (O.Whole f) = ⊥
+Untaken (O.Joined f) = ⊥
+Untaken (O.Kept n) = ⊥
+Untaken O.Repeat = ⊥
+Untaken O.Described = ⊥
+Untaken (O.Skipped t) = ⊥
+Untaken (O.Refused r) = numberOf r ≡ 10 → ⊥
+
+abbrev pub SaysUnit : Parts → Time → (rest out : List ℕ) → U.Unit → Outcome → (o : List ℕ) → Type 0
+SaysUnit E t rest out End x o = NoPart x
+SaysUnit E t rest out (Skipped y) x o = NoPart x
+SaysUnit E t rest out (Refused r) x o = NoPart x
+SaysUnit E t rest out (Whole w) x o = NoPart x
+SaysUnit E (Known time) rest out (Part p) x o = SaysPart E time p (dataOf rest (Part p)) out x o
+SaysUnit E Unknown rest out (Part p) x o = Untaken x
+SaysUnit E t rest out (Description w) x o = NoPart x
 
 -- ---- a desk's calls one after the other, and what each got
 abbrev pub SaysCall : Ledger → Call → Got → Type 0
-SaysCall L (receive desk at rest out) (answered a o) = SaysUnit (L at) at rest out (readOf rest .unit) (a .outcome) o
+SaysCall L (receive desk at rest out) (answered a o) = SaysUnit (pageAt L at) at rest out (readOf rest .unit) (a .outcome) o
 SaysCall L (receive desk at rest out) (released a) = ⊥
 SaysCall L (receive desk at rest out) (shown d) = ⊥
 SaysCall L (give-up desk at) g = Prim.Unit {0}

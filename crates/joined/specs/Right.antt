@@ -12,13 +12,15 @@ use Rattle.paper.specs.Limits.{sampleMost}
 use Rattle.paper.specs.Words.{numberOf}
 use Rattle.paper.specs.declared.Refusal.{Refusal}
 use Rattle.paper.specs.declared.Refusal.the-variants as R
+use Rattle.paper.specs.declared.Time.{Time}
+use Rattle.paper.specs.declared.Time.the-variants.{Known, Unknown}
 use Rattle.joining.specs.Joining.{Piece, kinds, together, stringOf, ordered, sound}
 use Rattle.unit.specs.declared.Whole as W
 use Rattle.unit.specs.declared.Part as P
 use Rattle.unit.specs.declared.Unit as U
 use Rattle.unit.specs.declared.Unit.the-variants.{End, Skipped, Refused, Whole, Part, Description}
 use Rattle.unit.specs.Layout.{readOf, dataOf}
-use Rattle.unit.specs.Reads.{Known, reads-known, Counts, Counted, reads-counted}
+use Rattle.unit.specs.Reads.{ByReader, read-by-reader, Counts, Counted, reads-counted}
 use Rattle.sample.specs.declared.Place.{Place}
 use Rattle.sample.specs.Place.{bare, closed, missing, piecesOf, kept, oversize}
 use Rattle.sample.specs.Arrival.{inOrder, orBlank}
@@ -30,7 +32,7 @@ use Rattle.style.specs.Store as S
 use Rattle.desk.specs.declared.Shares.{Shares}
 use Rattle.desk.specs.Desk.{Own, After, Given, refuse, facts, wholeTaken, sampleOf, conflicts, completed, joining, descriptionTaken}
 use Rattle.desk.specs.Desk.{taken, received, givenUp}
-use Rattle.desk.specs.Effects.{not-ten}
+use Rattle.desk.specs.Effects.{not-ten, at-times}
 use Rattle.memory.specs.Relay.{ordered as in-turn, yielded}
 use Rattle.joined.specs.Ledger.{Entry, Parts, adding, entered, enteredBy, givenUpBy, isEntered, enteredPiece, inThisOrder}
 use Rattle.joined.specs.Ledger.{different, Complete, Tell, KeptSays, JoinedSays, SaysPart, NoPart, SaysUnit}
@@ -70,7 +72,7 @@ module _ (p : Place) (E : Parts) (t : Tallies p E) (TOTAL : ℕ) (e : p .total �
           absurd (true≢false (sym h ∙ ap (λ (n : ℕ). sound n ps) l ∙ ap (sound (p .slen)) (sym pieces-are) ∙ f))
 
 -- ---- a part: q is the sample that it belongs to, and was open or is opened by it
-module _ (s : Own) (time used next : ℕ) (E : Parts) (x : P.Part) (d : List ℕ) where
+module _ (s : Own) (time used : ℕ) (next : Time) (E : Parts) (x : P.Part) (d : List ℕ) where
   -- what the call is told, and that place and page tally after it
   abbrev pub Right : After → Type 0
   Right a = SaysPart E time x d (s .out) (a .answer .outcome) (a .own .out) × Tallies (a .own .place) (entered E x d (a .answer .outcome))
@@ -158,26 +160,27 @@ module _ (s : Own) (time used next : ℕ) (E : Parts) (x : P.Part) (d : List ℕ
         (λ k. completed-right q t opens c a b room))))))
 
 -- ---- any unit
-module _ (h : Shares) (s : Own) (desk time : ℕ) (rest : List ℕ) (E : Parts) (tp : Tallies (s .place) E) where
-  abbrev pub RightOf : U.Unit → After → Type 0
-  RightOf x a =
-      SaysUnit E time rest (s .out) x (a .answer .outcome) (a .own .out)
+module _ (h : Shares) (s : Own) (desk : ℕ) (rest : List ℕ) (E : Parts) (tp : Tallies (s .place) E) where
+  abbrev RightOf : U.Unit → Time → After → Type 0
+  RightOf x t a =
+      SaysUnit E t rest (s .out) x (a .answer .outcome) (a .own .out)
       × Tallies (a .own .place) (enteredBy E rest x (a .answer .outcome))
 
-  refused-any : (x : U.Unit) (used : ℕ) (r : Refusal) → (numberOf r ≡ 10 → ⊥) → RightOf x (refuse s used time r)
-  refused-any End used r n = (n, tp)
-  refused-any (Skipped t) used r n = (n, tp)
-  refused-any (Refused w) used r n = (n, tp)
-  refused-any (Whole w) used r n = (n, tp)
-  refused-any (Part x) used r n = (λ z. absurd (n z), subst (Tallies (s .place)) (no _ _ (ne _ 10 n) refl) tp)
-  refused-any (Description w) used r n = (n, tp)
+  refused-any : (x : U.Unit) (t : Time) (used : ℕ) (next : Time) (r : Refusal) → (numberOf r ≡ 10 → ⊥) → RightOf x t (refuse s used next r)
+  refused-any End t used next r n = (n, tp)
+  refused-any (Skipped y) t used next r n = (n, tp)
+  refused-any (Refused w) t used next r n = (n, tp)
+  refused-any (Whole w) t used next r n = (n, tp)
+  refused-any (Part x) (Known time) used next r n = (λ z. absurd (n z), subst (Tallies (s .place)) (no _ _ (ne _ 10 n) refl) tp)
+  refused-any (Part x) Unknown used next r n = (n, subst (Tallies (s .place)) (no _ _ (ne _ 10 n) refl) tp)
+  refused-any (Description w) t used next r n = (n, tp)
 
   abbrev NoPartAfter : After → Type 0
   NoPartAfter a = NoPart (a .answer .outcome) × Tallies (a .own .place) E
 
-  whole-right : (used : ℕ) (w : W.Whole) (d : List ℕ) → NoPartAfter (wholeTaken s time used w d)
+  whole-right : (time used : ℕ) (next : Time) (w : W.Whole) (d : List ℕ) → NoPartAfter (wholeTaken s time used next w d)
   unfolding wholeTaken
-  whole-right used w d =
+  whole-right time used next w d =
       each NoPartAfter _ _ _ (λ k. (λ z. omega arith, tp))
       (λ k. each NoPartAfter _ _ _ (λ k. (λ z. omega arith, tp))
       (λ k. each NoPartAfter _ _ _ (λ k. (λ z. omega arith, tp)) (λ k. (tt, tp))))
@@ -191,26 +194,31 @@ module _ (h : Shares) (s : Own) (desk time : ℕ) (rest : List ℕ) (E : Parts) 
       I : S.After → Type 0
       I a = NoPart (a .answer .outcome)
 
-  taken-right : sampleMost ≤ length (s .out) → (used : ℕ) (x : U.Unit) → Known x → Counted x → RightOf x (taken h s desk time used rest x)
+  taken-right : sampleMost ≤ length (s .out) → (t : Time) (used : ℕ) (x : U.Unit) → ByReader x → Counted x
+      → RightOf x t (taken h s desk t used rest x)
   unfolding descriptionTaken
-  taken-right room used End k c = (tt, tp)
-  taken-right room used (Skipped t) k c = (tt, tp)
-  taken-right room used (Refused r) k c = (not-ten r k, tp)
-  taken-right room used (Whole w) k c = whole-right used w (dataOf rest (Whole w))
-  taken-right room used (Part x) k c = part-right s time used _ E x (dataOf rest (Part x)) h desk tp c room
-  taken-right room used (Description w) k c = (noted-no-part (s .store) _ (w .sidx) (dataOf rest (Description w)), tp)
+  taken-right room t used End k c = (tt, tp)
+  taken-right room t used (Skipped y) k c = (tt, tp)
+  taken-right room t used (Refused r) k c = (not-ten r k, tp)
+  taken-right room t used (Whole w) k c =
+      at-times (λ u. NoPartAfter) s used _ (λ time. whole-right time used _ w (dataOf rest (Whole w))) (λ z. omega arith, tp) t
+  taken-right room t used (Part x) k c =
+      at-times (RightOf (Part x)) s used _ (λ time. part-right s time used _ E x (dataOf rest (Part x)) h desk tp c room)
+      (refused-any (Part x) Unknown used Unknown R.Untimed (λ z. omega arith)) t
+  taken-right room t used (Description w) k c = (noted-no-part (s .store) _ (w .sidx) (dataOf rest (Description w)), tp)
 
-  pub receive-right : RightOf (readOf rest .unit) (in-turn false h s desk time rest)
+  pub receive-right : (t : Time) → RightOf (readOf rest .unit) t (in-turn false h s desk t rest)
   unfolding in-turn received
-  receive-right =
-      each (RightOf (readOf rest .unit)) _ _ _ (λ k. refused-any (readOf rest .unit) 0 R.Desk (λ z. omega arith))
-      (λ k. each (RightOf (readOf rest .unit)) _ _ _ (λ k. refused-any (readOf rest .unit) 0 R.Output (λ z. omega arith))
-      (λ k. taken-right (ge-of _ _ k) (readOf rest .used) (readOf rest .unit) (reads-known rest) (reads-counted rest)))
+  receive-right t =
+      let x = readOf rest .unit in
+      each (RightOf x t) _ _ _ (λ k. refused-any x t 0 t R.Desk (λ z. omega arith))
+      (λ k. each (RightOf x t) _ _ _ (λ k. refused-any x t 0 t R.Output (λ z. omega arith))
+      (λ k. taken-right (ge-of _ _ k) t (readOf rest .used) x (read-by-reader rest) (reads-counted rest)))
 
   -- ---- give-up
-  pub give-up-right : let g = yielded false s time in Tallies (g .own .place) (givenUpBy E (g .answer))
+  pub give-up-right : (time : ℕ) → let g = yielded false s time in Tallies (g .own .place) (givenUpBy E (g .answer))
   unfolding yielded givenUp
-  give-up-right = each G _ _ _ (λ k. tp) (λ k. each G _ _ _ (λ u. closed-tallies) (λ u. tp))
+  give-up-right time = each G _ _ _ (λ k. tp) (λ k. each G _ _ _ (λ u. closed-tallies) (λ u. tp))
     where
       G : Given → Type 0
       G g = Tallies (g .own .place) (givenUpBy E (g .answer))

@@ -10,7 +10,8 @@ use lib.Seq.{sets, sets-eq, length-sets, take-append-le}
 use Rattle.laws.specs.Rows.{_or_, each, ge-of}
 use Rattle.paper.specs.Limits.{sampleMost}
 use Rattle.paper.specs.declared.Facts.{Facts}
-use Rattle.paper.specs.declared.Name.{Name}
+use Rattle.paper.specs.declared.Sender.{Sender}
+use Rattle.paper.specs.declared.Time.{Time}
 use Rattle.paper.specs.declared.Outcome.{Outcome}
 use Rattle.paper.specs.declared.Outcome.the-variants as O
 use Rattle.text.specs.Unicode.{WellFormed}
@@ -32,9 +33,11 @@ use Rattle.style.specs.Store.{noted}
 use Rattle.style.specs.Store as S
 use Rattle.desk.specs.declared.Shares.{Shares}
 use Rattle.desk.specs.Desk.{Own, After, wholeTaken, sampleOf, completed, joining, descriptionTaken, taken, received}
+use Rattle.desk.specs.Effects.{at-times}
 use Rattle.memory.specs.declared.Started.the-variants.{Ready}
 use Rattle.memory.specs.Relay.{Tables, ownOf, storedShares, stranger, lacking, setUp, ordered, receivedAmong, receivedAt}
-use Rattle.good.specs.Good.{name, Good}
+use Rattle.memory.specs.Relay.{sender}
+use Rattle.good.specs.Good.{Good}
 use Rattle.good.specs.Leaves.{part-sane}
 use Rattle.peace.specs.Run.{Call, receive, give-up, lookup, Got, answered, released, shown, got, run}
 use Rattle.peace.specs.Always.{AllGet, good-get}
@@ -66,15 +69,15 @@ GotWell (shown d) = Prim.Unit {0}
 first-bytes : (out d : List ℕ) (n : ℕ) → n ≤ length d → length d ≤ length out → take n (sets out 0 d) ≡ take n d
 first-bytes out d n h k = ap (take n) (sets-eq d out 0 (omega arith)) ∙ take-append-le n d (drop (0 + length d) out) h
 
-module _ (h : Shares) (s : Own) (desk time used : ℕ) (sane : Sane (s .place)) (room : sampleMost ≤ length (s .out)) where
+module _ (h : Shares) (s : Own) (desk used : ℕ) (sane : Sane (s .place)) (room : sampleMost ≤ length (s .out)) where
   abbrev Well : After → Type 0
   Well a = HandsWell (a .answer .outcome) (a .own .out)
 
   -- ---- a sample that came whole
-  whole-hands-well : (rest : List ℕ) (w : W.Whole) → SampleThere rest w → WellText (Whole w) (dataOf rest (Whole w))
-      → Well (wholeTaken s time used w (dataOf rest (Whole w)))
+  whole-hands-well : (time : ℕ) (next : Time) (rest : List ℕ) (w : W.Whole) → SampleThere rest w
+      → WellText (Whole w) (dataOf rest (Whole w)) → Well (wholeTaken s time used next w (dataOf rest (Whole w)))
   unfolding wholeTaken
-  whole-hands-well rest w k t =
+  whole-hands-well time next rest w k t =
       let d = dataOf rest (Whole w) in
       each Well _ _ _ (λ q. tt)
       (λ q. each Well _ _ _ (λ q. tt)
@@ -90,9 +93,9 @@ module _ (h : Shares) (s : Own) (desk time used : ℕ) (sane : Sane (s .place)) 
       })))
 
   -- ---- a sample that is joined; p has all that was kept, and the part
-  completed-hands-well : (next : ℕ) (p : Place) → Sane p → Well (completed s time used next p)
+  completed-hands-well : (time : ℕ) (next : Time) (p : Place) → Sane p → Well (completed s time used next p)
   unfolding completed
-  completed-hands-well next p m =
+  completed-hands-well time next p m =
       each Well _ _ _ (λ k. tt)
       (λ k. each Well _ _ _
       (λ g.
@@ -109,17 +112,17 @@ module _ (h : Shares) (s : Own) (desk time used : ℕ) (sane : Sane (s .place)) 
       })
       (λ g. tt))
 
-  part-hands-well : (next : ℕ) (x : P.Part) (d : List ℕ) → Counts x → WellText (Part x) d
+  part-hands-well : (time : ℕ) (next : Time) (x : P.Part) (d : List ℕ) → Counts x → WellText (Part x) d
       → Well (joining h s time used next (sampleOf (s .place) desk time x) x d)
   unfolding joining
-  part-hands-well next x d c w =
+  part-hands-well time next x d c w =
       each Well _ _ _ (λ k. tt)
       (λ k. each Well _ _ _ (λ k. tt)
       (λ k. each Well _ _ _ (λ k. tt)
       (λ a. each Well _ _ _ (λ k. tt)
       (λ b. each Well _ _ _ (λ k. tt)
       (λ k. each Well _ _ _ (λ k. tt)
-      (λ k. completed-hands-well next _ (part-sane (s .place) sane desk time x d c w a b)))))))
+      (λ k. completed-hands-well time next _ (part-sane (s .place) sane desk time x d c w a b)))))))
 
   -- ---- any unit
   noted-hands-well : (store : List ℕ) (newest sidx : ℕ) (d out : List ℕ) → HandsWell (noted store newest sidx d .answer .outcome) out
@@ -130,31 +133,32 @@ module _ (h : Shares) (s : Own) (desk time used : ℕ) (sane : Sane (s .place)) 
       N : S.After → Type 0
       N a = HandsWell (a .answer .outcome) out
 
-  taken-hands-well : (rest : List ℕ) (x : U.Unit) → Counted x → SamplesThere rest x → WellText x (dataOf rest x)
-      → Well (taken h s desk time used rest x)
+  taken-hands-well : (t : Time) (rest : List ℕ) (x : U.Unit) → Counted x → SamplesThere rest x → WellText x (dataOf rest x)
+      → Well (taken h s desk t used rest x)
   unfolding descriptionTaken
-  taken-hands-well rest End c k w = tt
-  taken-hands-well rest (Skipped t) c k w = tt
-  taken-hands-well rest (Refused r) c k w = tt
-  taken-hands-well rest (Whole x) c k w = whole-hands-well rest x k w
-  taken-hands-well rest (Part x) c k w = part-hands-well _ x (dataOf rest (Part x)) c w
-  taken-hands-well rest (Description x) c k w = noted-hands-well (s .store) _ (x .sidx) (dataOf rest (Description x)) (s .out)
+  taken-hands-well t rest End c k w = tt
+  taken-hands-well t rest (Skipped y) c k w = tt
+  taken-hands-well t rest (Refused r) c k w = tt
+  taken-hands-well t rest (Whole x) c k w = at-times (λ u. Well) s used _ (λ time. whole-hands-well time _ rest x k w) tt t
+  taken-hands-well t rest (Part x) c k w =
+      at-times (λ u. Well) s used _ (λ time. part-hands-well time _ x (dataOf rest (Part x)) c w) tt t
+  taken-hands-well t rest (Description x) c k w = noted-hands-well (s .store) _ (x .sidx) (dataOf rest (Description x)) (s .out)
 
 -- ---- a call, in good tables
-ordered-hands-well : (one : Bool) (h : Shares) (s : Own) (desk time : ℕ) (rest : List ℕ) → Sane (s .place)
-    → let a = ordered one h s desk time rest in HandsWell (a .answer .outcome) (a .own .out)
+ordered-hands-well : (one : Bool) (h : Shares) (s : Own) (desk : ℕ) (t : Time) (rest : List ℕ) → Sane (s .place)
+    → let a = ordered one h s desk t rest in HandsWell (a .answer .outcome) (a .own .out)
 unfolding ordered received
-ordered-hands-well one h s desk time rest m =
+ordered-hands-well one h s desk t rest m =
     each A _ _ _ (λ q. tt)
     (λ q. each A _ _ _ (λ q. tt)
     (λ q.
-    taken-hands-well h s desk time (readOf rest .used) m (ge-of _ _ q) rest (readOf rest .unit) (reads-counted rest) (reads-there rest)
+    taken-hands-well h s desk (readOf rest .used) m (ge-of _ _ q) t rest (readOf rest .unit) (reads-counted rest) (reads-there rest)
     (read-well rest)))
   where
     A : After → Type 0
     A a = HandsWell (a .answer .outcome) (a .own .out)
 
-good-hands-well : (n : ℕ) (s : Tables) → Good n s → (who : Name) (rest out : List ℕ)
+good-hands-well : (n : ℕ) (s : Tables) → Good n s → (who : Sender) (rest out : List ℕ)
     → let a = receivedAt s who rest out in HandsWell (a .answer .outcome) (a .out)
 unfolding receivedAmong
 good-hands-well n s g who rest out =
@@ -163,7 +167,7 @@ good-hands-well n s g who rest out =
     (ownOf n s (who .desk) (who .time) out) (who .desk) (who .time) rest (g .well _ .sane))
 
 good-got : (n : ℕ) (s : Tables) (c : Call) → Good n s → GotWell (got s c)
-good-got n s (receive desk time rest out) g = good-hands-well n s g (name desk time) rest out
+good-got n s (receive desk t rest out) g = good-hands-well n s g (sender desk t) rest out
 good-got n s (give-up desk time) g = tt
 good-got n s (lookup desk index book) g = tt
 

@@ -5,8 +5,11 @@ use mathlib.Core.List.{List, _++_}
 use Rattle.paper.specs.Words.{numberOf}
 use Rattle.paper.specs.declared.Outcome.{Outcome}
 use Rattle.paper.specs.declared.Outcome.the-variants.{End, Whole, Joined, Kept, Repeat, Described, Skipped, Refused}
+use Rattle.paper.specs.declared.Time.{Time}
+use Rattle.paper.specs.declared.Time.the-variants.{Known, Unknown}
 use Rattle.paper.specs.declared.Answer.{Answer}
-use Rattle.lines.specs.Words.{wordAt, wordUsed, wordTime, wordBlank, newLine, wordEnd, wordWhole, wordJoined, wordKept, wordRepeat, wordDescribed, wordSkipped, wordRefused}
+use Rattle.lines.specs.Words.{wordAt, wordUsed, wordTime, wordUnknown, wordBlank, newLine, wordEnd, wordWhole, wordJoined, wordKept}
+use Rattle.lines.specs.Words.{wordRepeat, wordDescribed, wordSkipped, wordRefused}
 use Rattle.lines.specs.Digits.{digits}
 use Rattle.lines.specs.Typed.{page, typed, then}
 
@@ -21,25 +24,30 @@ outcomeText Described = wordDescribed
 outcomeText (Skipped t) = wordSkipped ++ digits t
 outcomeText (Refused r) = wordRefused ++ digits (numberOf r)
 
+-- the running time, and `?` where it is unknown
+unfoldable pub timeText : Time → List ℕ
+timeText (Known time) = digits time
+timeText Unknown = wordUnknown
+
 -- `at P used N time T`, the outcome, and a new line
-unfoldable pub lineOf : (place time : ℕ) → Answer → List ℕ
-lineOf place time a =
+unfoldable pub lineOf : (place : ℕ) → Time → Answer → List ℕ
+lineOf place t a =
     (wordAt ++ digits place)
     ++ (wordUsed ++ digits (a .used))
-    ++ (wordTime ++ digits time)
+    ++ (wordTime ++ timeText t)
     ++ wordBlank
     ++ outcomeText (a .outcome)
     ++ newLine
 
 -- in the code's own values: the pieces of a line, one behind the other
-pub line-is : (out : List ℕ) (at place time : ℕ) (answer : Answer) (a b c d e f : List ℕ) (i j k l m n : ℕ)
+pub line-is : (out : List ℕ) (at place : ℕ) (t : Time) (answer : Answer) (a b c d e f : List ℕ) (i j k l m n : ℕ)
     → page a i ≡ typed out at (wordAt ++ digits place)
     → page b j ≡ typed a i (wordUsed ++ digits (answer .used))
-    → page c k ≡ typed b j (wordTime ++ digits time)
+    → page c k ≡ typed b j (wordTime ++ timeText t)
     → page d l ≡ typed c k wordBlank
     → page e m ≡ typed d l (outcomeText (answer .outcome))
     → page f n ≡ typed e m newLine
-    → page f n ≡ typed out at (lineOf place time answer)
+    → page f n ≡ typed out at (lineOf place t answer)
 unfolding lineOf
-line-is out at place time answer a b c d e f i j k l m n p q r s t u =
-    then _ _ _ _ _ _ _ _ (then _ _ _ _ _ _ _ _ (then _ _ _ _ _ _ _ _ (then _ _ _ _ _ _ _ _ (then _ _ _ _ _ _ _ _ p q) r) s) t) u
+line-is out at place t answer a b c d e f i j k l m n p q r s v u =
+    then _ _ _ _ _ _ _ _ (then _ _ _ _ _ _ _ _ (then _ _ _ _ _ _ _ _ (then _ _ _ _ _ _ _ _ (then _ _ _ _ _ _ _ _ p q) r) s) v) u

@@ -14,6 +14,10 @@ wordUsed = 0x20 ∷ 0x75 ∷ 0x73 ∷ 0x65 ∷ 0x64 ∷ 0x20 ∷ []
 abbrev pub wordTime : List ℕ
 wordTime = 0x20 ∷ 0x74 ∷ 0x69 ∷ 0x6d ∷ 0x65 ∷ 0x20 ∷ []
 
+-- `?`
+abbrev pub wordUnknown : List ℕ
+wordUnknown = 0x3f ∷ []
+
 -- ` `
 abbrev pub wordBlank : List ℕ
 wordBlank = 0x20 ∷ []

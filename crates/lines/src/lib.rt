@@ -1,12 +1,14 @@
 // Numbers and answers as text, laid into a lent output: what does not fit is left out, and the answer is the place behind the text.
 use paper::Answer;
 use paper::Outcome;
+use paper::Time;
 ghost use mathlib.Core.Path.{_≡_};
 ghost use mathlib.Core.List.{[], _∷_, _++_};
 ghost use Prim.Native.Nat.{_+_, _<_};
 ghost use Rattle.lines.specs.Digits.{digitZero, digits};
-ghost use Rattle.lines.specs.Line.{outcomeText, lineOf};
+ghost use Rattle.lines.specs.Line.{outcomeText, timeText, lineOf};
 ghost use Rattle.lines.specs.Typed.{page, typed};
+ghost use Rattle.lines.specs.Words.{wordTime};
 
 pub fn put_text(out: &mut [u8], at: usize, text: &[u8]) -> usize
     ensures { λ r. ⌜ page (now (out .exit)) r ≡ typed (now (out .entry)) at (now (text .entry)) ⌝ }
@@ -56,14 +58,23 @@ fn put_outcome(out: &mut [u8], at: usize, outcome: Outcome) -> usize
     }
 }
 
+fn put_time(out: &mut [u8], at: usize, t: Time) -> usize
+    ensures { λ r. ⌜ page (now (out .exit)) r ≡ typed (now (out .entry)) at (wordTime ++ timeText t) ⌝ }
+{
+    match t {
+        Time::Known(time) => put_count(out, at, b" time ", time as usize),
+        Time::Unknown => put_text(out, at, b" time ?"),
+    }
+}
+
 // The line of one unit: where it stands in the payload, the time it is read at, and what was answered.
-pub fn put_line(out: &mut [u8], at: usize, place: usize, time: u32, answer: Answer) -> usize
-    ensures { λ r. ⌜ page (now (out .exit)) r ≡ typed (now (out .entry)) at (lineOf place time answer) ⌝ }
+pub fn put_line(out: &mut [u8], at: usize, place: usize, t: Time, answer: Answer) -> usize
+    ensures { λ r. ⌜ page (now (out .exit)) r ≡ typed (now (out .entry)) at (lineOf place t answer) ⌝ }
 {
     let outcome = answer.outcome;
     let next = put_count(out, at, b"at ", place);
     let next = put_count(out, next, b" used ", answer.used);
-    let next = put_count(out, next, b" time ", time as usize);
+    let next = put_time(out, next, t);
     let next = put_text(out, next, b" ");
     let next = put_outcome(out, next, outcome);
     put_text(out, next, b"\n")

@@ -4,9 +4,11 @@ use mathlib.Core.List.{List, _++_}
 use lib.ListN.{length, drop, replicate}
 use Rattle.laws.specs.Rows.{_⇒_⁏_, _<?_, _=?_}
 use Rattle.paper.specs.Limits.{sampleMost, placesMost, rowsNeed, marksNeed, storesNeed}
+use Rattle.paper.specs.declared.Time.{Time}
+use Rattle.paper.specs.declared.Time.the-variants.{Known}
 use Rattle.sample.specs.Place.{closed}
 use Rattle.memory.specs.Relay.{Tables, Done, tables, setUp, receivedAt}
-use Rattle.good.specs.Good.{name}
+use Rattle.memory.specs.Relay.{sender}
 use Rattle.lines.specs.Words.{wordEnd, wordTooLong, newLine}
 use Rattle.lines.specs.Line.{lineOf}
 
@@ -29,17 +31,17 @@ unfoldable pub fresh : Tables
 fresh = setUp 1 blank .tables
 
 -- one call of desk 0, lent a blank output
-abbrev pub called : Tables → (time : ℕ) → (rest : List ℕ) → Done
-called s time rest = receivedAt s (name 0 time) rest (replicate sampleMost 0)
+abbrev pub called : Tables → Time → (rest : List ℕ) → Done
+called s t rest = receivedAt s (sender 0 t) rest (replicate sampleMost 0)
 
--- a line a unit, and `end`: rest begins at `at` in the payload, and is read at `time`. `turns` bounds the number of units
-unfoldable pub linesFrom : (turns : ℕ) → Tables → (time at : ℕ) → (rest : List ℕ) → List ℕ
-linesFrom zero s time at rest = endLine
-linesFrom (suc turns) s time at rest =
+-- a line a unit, and `end`: rest begins at `at` in the payload, and is read at the time t. `turns` bounds the number of units
+unfoldable pub linesFrom : (turns : ℕ) → Tables → Time → (at : ℕ) → (rest : List ℕ) → List ℕ
+linesFrom zero s t at rest = endLine
+linesFrom (suc turns) s t at rest =
     length rest =? 0 ⇒ endLine
-    ⁏ (let d = called s time rest in
-    lineOf at time (d .answer) ++ linesFrom turns (d .tables) (d .answer .next) (at + d .answer .used) (drop (d .answer .used) rest))
+    ⁏ (let d = called s t rest in
+    lineOf at t (d .answer) ++ linesFrom turns (d .tables) (d .answer .next) (at + d .answer .used) (drop (d .answer .used) rest))
 
 -- every unit uses a byte at least, so there are at most as many as bytes
 unfoldable pub listed : (input : List ℕ) → List ℕ
-listed input = payloadMost <? length input ⇒ tooLong ⁏ linesFrom (length input) fresh 0 0 input
+listed input = payloadMost <? length input ⇒ tooLong ⁏ linesFrom (length input) fresh (Known 0) 0 input

@@ -8,6 +8,8 @@ use mathlib.Core.List.{List}
 use lib.ListN.{length}
 use Rattle.laws.specs.Rows.{_⇒_⁏_, _and_, each, eq-of, ge-of, and-of, or-none, not-of}
 use Rattle.paper.specs.Limits.{sampleMost}
+use Rattle.paper.specs.declared.Time.{Time}
+use Rattle.paper.specs.declared.Time.the-variants.{Known, Unknown}
 use Rattle.paper.specs.declared.Outcome.{Outcome}
 use Rattle.paper.specs.declared.Outcome.the-variants as O
 use Rattle.unit.specs.declared.Whole as W
@@ -24,7 +26,8 @@ use Rattle.sample.specs.Sound.{sound-of}
 use Rattle.style.specs.Store.{noted}
 use Rattle.style.specs.Store as S
 use Rattle.desk.specs.declared.Shares.{Shares}
-use Rattle.desk.specs.Desk.{Own, After, laterPart, wholeTaken, sampleOf, conflicts, completed, joining, descriptionTaken, taken, received}
+use Rattle.desk.specs.Desk.{Own, After, later, laterPart, wholeTaken, sampleOf, conflicts, completed, joining, descriptionTaken, taken}
+use Rattle.desk.specs.Desk.{received}
 
 -- ---- a reading: TYPE is below 8, TOTAL below 16, and it uses three bytes at least, or all
 abbrev Slight : Unit → Type 0
@@ -66,18 +69,28 @@ Brief O.Described = Prim.Unit {0}
 Brief (O.Skipped t) = t < 8
 Brief (O.Refused r) = Prim.Unit {0}
 
+-- a known time fits 32 bits
+abbrev pub Within : Time → Type 0
+Within (Known time) = time < 4294967296
+Within Unknown = Prim.Unit {0}
+
 pub record Modest (used : ℕ) (a : After) : Type 0 where
-  pub next : a .answer .next < 4294967296
+  pub next : Within (a .answer .next)
   pub uses : a .answer .used ≡ used
   pub words : Brief (a .answer .outcome)
 
-whole-modest : (s : Own) (time used : ℕ) (w : W.Whole) (d : List ℕ) → s .place .slen ≤ sampleMost → Modest used (wholeTaken s time used w d)
+later-within : (time SDUR : ℕ) → Within (later time SDUR)
+unfolding later
+later-within time SDUR = each Within _ _ _ (λ q. tt) (λ q. omega arith)
+
+whole-modest : (s : Own) (time used : ℕ) (next : Time) (w : W.Whole) (d : List ℕ) → Within next
+    → Modest used (wholeTaken s time used next w d)
 unfolding wholeTaken
-whole-modest s time used w d h =
-    each (Modest used) _ _ _ (λ q. record { next = omega arith; uses = refl; words = tt })
-    (λ q. each (Modest used) _ _ _ (λ q. record { next = omega arith; uses = refl; words = tt })
-    (λ q. each (Modest used) _ _ _ (λ q. record { next = omega arith; uses = refl; words = tt })
-    (λ q. record { next = omega arith; uses = refl; words = ge-of _ _ q })))
+whole-modest s time used next w d n =
+    each (Modest used) _ _ _ (λ q. record { next = n; uses = refl; words = tt })
+    (λ q. each (Modest used) _ _ _ (λ q. record { next = n; uses = refl; words = tt })
+    (λ q. each (Modest used) _ _ _ (λ q. record { next = n; uses = refl; words = tt })
+    (λ q. record { next = n; uses = refl; words = ge-of _ _ q })))
 
 -- ---- parts: a place's SLEN was told by a part that 5 let through, and its TOTAL is that of the part
 both : (a b : Bool) → a ≡ true → (a and b) ≡ false → b ≡ false
@@ -96,7 +109,7 @@ kept-modest q x d h o =
     Q : Place → Type 0
     Q p = (p .slen ≤ sampleMost) × (p .total ≡ q .total)
 
-completed-modest : (s : Own) (time used next : ℕ) (q : Place) → next < 4294967296 → q .slen ≤ sampleMost → q .total < 16
+completed-modest : (s : Own) (time used : ℕ) (next : Time) (q : Place) → Within next → q .slen ≤ sampleMost → q .total < 16
     → Modest used (completed s time used next q)
 unfolding completed missing bare
 completed-modest s time used next q n h t =
@@ -105,10 +118,10 @@ completed-modest s time used next q n h t =
     (λ k. record { next = n; uses = refl; words = omega (arith, sound-of (q .slen) (piecesOf q) k .1) })
     (λ k. record { next = n; uses = refl; words = tt }))
 
-joining-modest : (g : Shares) (s : Own) (time used next : ℕ) (q : Place) (x : P.Part) (d : List ℕ) → s .place .slen ≤ sampleMost
-    → next < 4294967296 → q .slen ≤ sampleMost → x .total < 16 → Modest used (joining g s time used next q x d)
+joining-modest : (g : Shares) (s : Own) (time used : ℕ) (next : Time) (q : Place) (x : P.Part) (d : List ℕ) → Within next
+    → q .slen ≤ sampleMost → x .total < 16 → Modest used (joining g s time used next q x d)
 unfolding joining conflicts agrees
-joining-modest g s time used next q x d h n k t =
+joining-modest g s time used next q x d n k t =
     each (Modest used) _ _ _ (λ e. record { next = n; uses = refl; words = tt })
     (λ e. each (Modest used) _ _ _ (λ e. record { next = n; uses = refl; words = tt })
     (λ e. each (Modest used) _ _ _ (λ e. record { next = n; uses = refl; words = tt })
@@ -124,16 +137,16 @@ sample-modest : (p : Place) (desk time : ℕ) (x : P.Part) → p .slen ≤ sampl
 unfolding sampleOf bare
 sample-modest p desk time x h = each (λ (q : Place). q .slen ≤ sampleMost) _ _ _ (λ e. h) (λ e. omega arith)
 
-later-modest : (time : ℕ) (x : P.Part) → time < 4294967296 → laterPart time x < 4294967296
+part-within : (time : ℕ) (x : P.Part) → time < 4294967296 → Within (laterPart time x)
 unfolding laterPart
-later-modest time x h = each (λ (t : ℕ). t < 4294967296) _ _ _ (λ e. omega arith) (λ e. h)
+part-within time x h = each Within _ _ _ (λ e. later-within time (x .sdur)) (λ e. h)
 
 -- ---- TYPE 5, and one unit
-described-modest : (s : Own) (time used : ℕ) (w : D.Description) (d : List ℕ) → s .place .slen ≤ sampleMost → time < 4294967296
-    → Modest used (descriptionTaken s time used w d)
+described-modest : (s : Own) (t : Time) (used : ℕ) (w : D.Description) (d : List ℕ) → Within t
+    → Modest used (descriptionTaken s t used w d)
 unfolding descriptionTaken noted
-described-modest s time used w d h t = record {
-  next = t;
+described-modest s t used w d n = record {
+  next = n;
   uses = refl;
   words = each B _ _ _ (λ q. tt) (λ q. each B _ _ _ (λ q. tt) (λ q. each B _ _ _ (λ q. tt) (λ q. each B _ _ _ (λ q. tt) (λ q. tt))));
 }
@@ -141,18 +154,21 @@ described-modest s time used w d h t = record {
     B : S.After → Type 0
     B a = Brief (a .answer .outcome)
 
-taken-modest : (g : Shares) (s : Own) (desk time used : ℕ) (rest : List ℕ) (x : Unit) → s .place .slen ≤ sampleMost → time < 4294967296
-    → Slight x → Modest used (taken g s desk time used rest x)
-taken-modest g s desk time used rest End h t k = record { next = t; uses = refl; words = tt }
-taken-modest g s desk time used rest (Skipped y) h t k = record { next = t; uses = refl; words = k }
-taken-modest g s desk time used rest (Refused r) h t k = record { next = t; uses = refl; words = tt }
-taken-modest g s desk time used rest (Whole w) h t k = whole-modest s time used w (dataOf rest (Whole w)) h
-taken-modest g s desk time used rest (Part x) h t k =
-    joining-modest g s time used (laterPart time x) (sampleOf (s .place) desk time x) x (dataOf rest (Part x)) h (later-modest time x t)
+taken-modest : (g : Shares) (s : Own) (desk : ℕ) (t : Time) (used : ℕ) (rest : List ℕ) (x : Unit) → s .place .slen ≤ sampleMost → Within t
+    → Slight x → Modest used (taken g s desk t used rest x)
+taken-modest g s desk t used rest End h n k = record { next = n; uses = refl; words = tt }
+taken-modest g s desk t used rest (Skipped y) h n k = record { next = n; uses = refl; words = k }
+taken-modest g s desk t used rest (Refused r) h n k = record { next = n; uses = refl; words = tt }
+taken-modest g s desk (Known time) used rest (Whole w) h n k =
+    whole-modest s time used _ w (dataOf rest (Whole w)) (later-within time (w .sdur))
+taken-modest g s desk (Known time) used rest (Part x) h n k =
+    joining-modest g s time used (laterPart time x) (sampleOf (s .place) desk time x) x (dataOf rest (Part x)) (part-within time x n)
     (sample-modest (s .place) desk time x h) k
-taken-modest g s desk time used rest (Description w) h t k = described-modest s time used w (dataOf rest (Description w)) h t
+taken-modest g s desk Unknown used rest (Whole w) h n k = record { next = tt; uses = refl; words = tt }
+taken-modest g s desk Unknown used rest (Part x) h n k = record { next = tt; uses = refl; words = tt }
+taken-modest g s desk t used rest (Description w) h n k = described-modest s t used w (dataOf rest (Description w)) n
 
-pub modest : (g : Shares) (s : Own) (desk time : ℕ) (rest : List ℕ) → s .place .slen ≤ sampleMost → time < 4294967296
-    → Modest (readOf rest .used) (received g s desk time rest)
+pub modest : (g : Shares) (s : Own) (desk : ℕ) (t : Time) (rest : List ℕ) → s .place .slen ≤ sampleMost → Within t
+    → Modest (readOf rest .used) (received g s desk t rest)
 unfolding received
-modest g s desk time rest h t = taken-modest g s desk time (readOf rest .used) rest (readOf rest .unit) h t (reads-slight rest)
+modest g s desk t rest h n = taken-modest g s desk t (readOf rest .used) rest (readOf rest .unit) h n (reads-slight rest)

@@ -1,5 +1,6 @@
 // The listing of one payload: a line a unit.
-use paper::Name;
+use paper::Sender;
+use paper::Time;
 use paper::limits::FINISHED_MOST;
 use paper::limits::HEAD_SIZE;
 use paper::limits::MARKS_EACH;
@@ -9,6 +10,7 @@ use paper::limits::STORE_SIZE;
 use sample::Place;
 ghost use mathlib.Core.Path.{_≡_};
 ghost use lib.ListN.{length};
+ghost use Rattle.paper.specs.declared.Time.the-variants.{Known};
 ghost use Rattle.memory.specs.Relay.{tables};
 ghost use Rattle.good.specs.Good.{Good};
 ghost use Rattle.lines.specs.Typed.{page, typed};
@@ -31,15 +33,15 @@ fn list_units(
     ensures { λ r. ⌜ page (now (text .exit)) r
         ≡ typed (now (text .entry)) 0
         (linesFrom (length (now (input .entry))) (tables fresh (now (rows .entry)) (now (marks .entry)) (now (stores .entry)))
-        0 0 (now (input .entry))) ⌝ }
+        (Known 0) 0 (now (input .entry))) ⌝ }
 {
     let mut places = fresh;
-    let mut time: u32 = 0;
+    let mut time = Time::Known(0);
     let mut at = 0;
     let mut next = 0;
     while at < input.len() {
         let mut out = [0u8; SAMPLE_MOST];
-        let who = Name { desk: 0, time };
+        let who = Sender { desk: 0, time };
         let called = held::receive(places, rows, marks, stores, who, &input[at..], &mut out);
         let answer = called.answer;
         next = lines::put_line(text, next, at, time, answer);

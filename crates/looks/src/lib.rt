@@ -2,15 +2,17 @@
 use asks::Arrival;
 use desk::GivenUp;
 use paper::Name;
+use paper::Sender;
+use paper::Time;
 use paper::limits::DESKS_MOST;
 use paper::limits::PLACES_EACH;
 use unit::Reading;
 ghost use mathlib.Core.Path.{_≡_};
 ghost use Rattle.memory.specs.Relay.{desksOf};
-ghost use Rattle.looks.specs.Looks.{reachOf, reachFor, askedOf, spotOf, freedAt};
+ghost use Rattle.looks.specs.Looks.{reachOf, reachAt, reachFor, askedOf, spotOf, senderOf, freedAt};
 
 // How many of the places that are lent are the desks'; none where their number is improper.
-pub fn reach(marks: &[u32], who: Name, len: usize) -> usize
+fn all(marks: &[u32], len: usize) -> usize
     ensures { λ r. ⌜ r ≡ reachOf (desksOf (now (marks .entry))) len ⌝ }
 {
     let n = gate::desks_of(marks);
@@ -20,11 +22,22 @@ pub fn reach(marks: &[u32], who: Name, len: usize) -> usize
     octets::least(PLACES_EACH * n, len)
 }
 
-// The same where the unit names a sample, and else none.
-pub fn reach_for(marks: &[u32], who: Name, len: usize, r: Reading) -> usize
-    ensures { λ m. ⌜ m ≡ reachFor (desksOf (now (marks .entry))) len (r .unit) ⌝ }
+// The same at a known time, and else none.
+pub fn reach(marks: &[u32], who: Sender, len: usize) -> usize
+    ensures { λ r. ⌜ r ≡ reachAt (desksOf (now (marks .entry))) (who .time) len ⌝ }
 {
-    if asks::has_place(r) {
+    let t = who.time;
+    match t {
+        Time::Known(_) => all(marks, len),
+        Time::Unknown => 0,
+    }
+}
+
+// The same where the unit names a sample, and else none.
+pub fn reach_for(marks: &[u32], who: Sender, len: usize, r: Reading) -> usize
+    ensures { λ m. ⌜ m ≡ reachFor (desksOf (now (marks .entry))) (who .time) len (r .unit) ⌝ }
+{
+    if asks::is_text(r) {
         return reach(marks, who, len);
     }
     0
@@ -52,6 +65,15 @@ pub fn spot(at: usize, low: usize, m: usize, len: usize, x: Arrival) -> usize
         }
     }
     len
+}
+
+pub fn sender_of(who: Name) -> Sender
+    ensures { λ r. ⌜ r ≡ senderOf who ⌝ }
+{
+    Sender {
+        desk: who.desk,
+        time: Time::Known(who.time),
+    }
 }
 
 pub fn freed_at(g: GivenUp, at: usize, len: usize) -> usize

@@ -10,6 +10,7 @@ use lib.Seq.{set-getD, set-out, getD-set-same}
 use Rattle.laws.specs.Rows.{_⇒_⁏_, _<?_, each, lt, ge, lt-of, ge-of, and-of, not-is}
 use Rattle.laws.specs.Table.{seek, seek-hit}
 use Rattle.paper.specs.Limits.{opensAt, commonAt, markMost}
+use Rattle.paper.specs.declared.Time.{Time}
 use Rattle.sample.specs.declared.Place.{Place}
 use Rattle.sample.specs.Place.{bare, closed}
 use Rattle.memory.specs.Table.{vacant, isAt}
@@ -55,7 +56,7 @@ recounted-same desk b marks =
     (λ e. ap (set marks commonAt) (stepped-same b (commonOf marks)) ∙ set-getD marks commonAt 0) (λ e. set-getD marks commonAt 0)
 
 -- ---- the place that a call is about
-module _ (d t : ℕ) (l : List Place) where
+module _ (d : ℕ) (t : Time) (l : List Place) where
   -- a free place, and none, is not open
   free-at : (i : ℕ) → (i < length l → vacant (getD l i closed) ≡ true) → getD l i closed .used ≡ false
   unfolding bare _⇒_⁏_

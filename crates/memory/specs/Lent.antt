@@ -7,6 +7,7 @@ use denote.Ref.{RefT, now}
 use denote.Triple.Both.{Both}
 use Rattle.paper.specs.declared.Answer.{Answer}
 use Rattle.paper.specs.declared.Name.{Name}
+use Rattle.paper.specs.declared.Sender.{Sender}
 use Rattle.sample.specs.declared.Place.{Place}
 use Rattle.desk.specs.declared.GivenUp.{GivenUp}
 use Rattle.memory.specs.declared.Started.{Started}
@@ -36,7 +37,7 @@ lentThree places rows marks stores = record {
 abbrev pub SetsUp : (n : ℕ) → Lent → Started → Type 0
 SetsUp n l r = prepared (l .exit) r ≡ setUp n (l .entry)
 
-abbrev pub Receives : Lent → Name → (rest out : Slice ℕ) → Answer → Type 0
+abbrev pub Receives : Lent → Sender → (rest out : Slice ℕ) → Answer → Type 0
 Receives l who rest out a = done (l .exit) (now (out .exit)) a ≡ receivedAt (l .entry) who (now (rest .entry)) (now (out .entry))
 
 abbrev pub GivesUp : (List ℕ → Lent) → Name → GivenUp → Type 0

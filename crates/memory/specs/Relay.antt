@@ -15,6 +15,9 @@ use Rattle.paper.specs.Words.{numberOf}
 use Rattle.paper.specs.declared.Refusal.the-variants as R
 use Rattle.paper.specs.declared.Answer.{Answer}
 use Rattle.paper.specs.declared.Name.{Name}
+use Rattle.paper.specs.declared.Sender.{Sender}
+use Rattle.paper.specs.declared.Time.{Time}
+use Rattle.paper.specs.declared.Time.the-variants.{Known}
 use Rattle.sample.specs.declared.Place.{Place}
 use Rattle.sample.specs.Place.{closed}
 use Rattle.style.specs.Shown.{shown}
@@ -55,12 +58,12 @@ abbrev pub storeOf : (desk : ℕ) → List ℕ → List ℕ
 storeOf desk stores = part (storeSize * desk) storeSize stores
 
 -- the desk's open sample of a time; a closed place where there is none
-abbrev pub openAt : (desk time : ℕ) → List Place → Place
-openAt desk time l = getD l (seek (isAt desk time) l) closed
+abbrev pub openAt : (desk : ℕ) → Time → List Place → Place
+openAt desk t l = getD l (seek (isAt desk t) l) closed
 
-abbrev pub ownOf : (n : ℕ) → Tables → (desk time : ℕ) → (out : List ℕ) → Own
-ownOf n s desk time out =
-    own (openAt desk time (placesOf n s)) (rowOf desk (s .rows)) (marksOf desk (s .marks)) (storeOf desk (s .stores)) out
+abbrev pub ownOf : (n : ℕ) → Tables → (desk : ℕ) → Time → (out : List ℕ) → Own
+ownOf n s desk t out =
+    own (openAt desk t (placesOf n s)) (rowOf desk (s .rows)) (marksOf desk (s .marks)) (storeOf desk (s .stores)) out
 
 -- ---- the shares: the common use is the sum, over all desks, of open samples beyond two
 abbrev pub commonUse : (n : ℕ) → List Place → ℕ
@@ -82,21 +85,21 @@ storedShares n desk marks = record { opens = opensOf desk marks; common = common
 
 -- ---- what becomes of the tables
 -- p is from now on the desk's sample of this time: it stands where that stood; where none stood, in the lowest free place
-unfoldable pub standsAt : (desk time : ℕ) → Place → List Place → ℕ
-standsAt desk time p l =
-    seek (isAt desk time) l <? length l ⇒ seek (isAt desk time) l
+unfoldable pub standsAt : (desk : ℕ) → Time → Place → List Place → ℕ
+standsAt desk t p l =
+    seek (isAt desk t) l <? length l ⇒ seek (isAt desk t) l
     ⁏ p .used ⇒ seek vacant l
     ⁏ length l
 
-abbrev pub placed : (desk time : ℕ) → Place → List Place → List Place
-placed desk time p l = set l (standsAt desk time p l) p
+abbrev pub placed : (desk : ℕ) → Time → Place → List Place → List Place
+placed desk t p l = set l (standsAt desk t p l) p
 
 -- the desk's sample of this time is open, before the call; and after it, in the place where it stands
-abbrev pub wasOpen : (desk time : ℕ) → List Place → Bool
-wasOpen desk time l = openAt desk time l .used
+abbrev pub wasOpen : (desk : ℕ) → Time → List Place → Bool
+wasOpen desk t l = openAt desk t l .used
 
-abbrev pub isOpen : (desk time : ℕ) → Place → List Place → Bool
-isOpen desk time p l = getD (placed desk time p l) (standsAt desk time p l) closed .used
+abbrev pub isOpen : (desk : ℕ) → Time → Place → List Place → Bool
+isOpen desk t p l = getD (placed desk t p l) (standsAt desk t p l) closed .used
 
 -- a number of open places, by one that was open or not and is now or not. In tables that nobody set up 0 does not fall and the largest
 -- number does not rise
@@ -118,19 +121,19 @@ recounted desk was is marks =
     (commonStepped was is (opensOf desk marks) (commonOf marks))
 
 -- the desk's own things put back; what lies beyond the 4n places is not touched
-abbrev pub putOwn : (n : ℕ) → Tables → (desk time : ℕ) → Own → Tables
-putOwn n s desk time o =
-    tables (placed desk time (o .place) (placesOf n s) ++ drop (places n) (s .places))
+abbrev pub putOwn : (n : ℕ) → Tables → (desk : ℕ) → Time → Own → Tables
+putOwn n s desk t o =
+    tables (placed desk t (o .place) (placesOf n s) ++ drop (places n) (s .places))
     (splice (finishedMost * desk) finishedMost (o .row) (s .rows))
     (splice (headSize + marksEach * desk) marksEach (o .marks) (s .marks))
     (splice (storeSize * desk) storeSize (o .store) (s .stores))
 
 -- and its place counted
-abbrev pub putBack : (n : ℕ) → Tables → (desk time : ℕ) → Own → Tables
-putBack n s desk time o =
-    let t = putOwn n s desk time o in
-    tables (t .places) (t .rows)
-    (recounted desk (wasOpen desk time (placesOf n s)) (isOpen desk time (o .place) (placesOf n s)) (t .marks)) (t .stores)
+abbrev pub putBack : (n : ℕ) → Tables → (desk : ℕ) → Time → Own → Tables
+putBack n s desk t o =
+    let r = putOwn n s desk t o in
+    tables (r .places) (r .rows)
+    (recounted desk (wasOpen desk t (placesOf n s)) (isOpen desk t (o .place) (placesOf n s)) (r .marks)) (r .stores)
 
 -- ---- refusal 1: n is not 1 to 8, the desk is not below n, or something lent is shorter than n needs
 unfoldable pub improper : (n : ℕ) → Bool
@@ -195,27 +198,39 @@ pub record Done : Type 0 where
 abbrev pub done : Tables → (out : List ℕ) → Answer → Done
 done s out a = record { tables = s; out = out; answer = a }
 
--- 1 (`one` says whether), 2, then the desk's own order; 1 and 2 use no bytes
-unfoldable pub ordered : (one : Bool) → Shares → Own → (desk time : ℕ) → (rest : List ℕ) → After
-ordered one h s desk time rest =
-    one ⇒ refuse s 0 time R.Desk
-    ⁏ length (s .out) <? sampleMost ⇒ refuse s 0 time R.Output
-    ⁏ received h s desk time rest
+-- 1 (`one` says whether), 2, then what the desk makes of it; 1 and 2 use no bytes
+abbrev pub gated : (one : Bool) → Own → Time → After → After
+gated one s t a =
+    one ⇒ refuse s 0 t R.Desk
+    ⁏ length (s .out) <? sampleMost ⇒ refuse s 0 t R.Output
+    ⁏ a
+
+-- and that is the desk's own order
+unfoldable pub ordered : (one : Bool) → Shares → Own → (desk : ℕ) → Time → (rest : List ℕ) → After
+ordered one h s desk t rest = gated one s t (received h s desk t rest)
 
 -- the desk's own things as the call leaves them, put back
-abbrev pub settled : (n : ℕ) → Tables → (desk time : ℕ) → After → Done
-settled n s desk time a = done (putBack n s desk time (a .own)) (a .own .out) (a .answer)
+abbrev pub settled : (n : ℕ) → Tables → (desk : ℕ) → Time → After → Done
+settled n s desk t a = done (putBack n s desk t (a .own)) (a .own .out) (a .answer)
 
 -- among n desks
-unfoldable pub receivedAmong : (n : ℕ) → Tables → (desk time : ℕ) → (rest out : List ℕ) → Done
-receivedAmong n s desk time rest out =
-    settled n s desk time
-    (ordered (stranger n desk or lacking n s) (storedShares n desk (s .marks)) (ownOf n s desk time out) desk time rest)
+unfoldable pub receivedAmong : (n : ℕ) → Tables → (desk : ℕ) → Time → (rest out : List ℕ) → Done
+receivedAmong n s desk t rest out =
+    settled n s desk t
+    (ordered (stranger n desk or lacking n s) (storedShares n desk (s .marks)) (ownOf n s desk t out) desk t rest)
 
-abbrev pub receivedAt : Tables → Name → (rest out : List ℕ) → Done
+-- who sends a unit
+abbrev pub sender : (desk : ℕ) → Time → Sender
+sender desk t = record { desk = desk; time = t }
+
+abbrev pub receivedAt : Tables → Sender → (rest out : List ℕ) → Done
 receivedAt s who rest out = receivedAmong (desksOf (s .marks)) s (who .desk) (who .time) rest out
 
--- ---- give-up: 1, 11, or the place is freed and the time marked. It is lent no store and no output
+-- 1 or 2 shuts a call out
+abbrev pub shutOut : Tables → (desk : ℕ) → (out : List ℕ) → Bool
+shutOut s desk out = let n = desksOf (s .marks) in (stranger n desk or lacking n s) or length out <? sampleMost
+
+-- ---- give-up, of a sample, whose time is known: 1, 11, or the place is freed and the time marked. It is lent no store and no output
 pub record Released : Type 0 where
   pub tables : Tables
   pub answer : GivenUp
@@ -227,12 +242,13 @@ unfoldable pub yielded : (one : Bool) → Own → (time : ℕ) → Given
 yielded one s time = one ⇒ record { own = s; answer = G.Refused R.Desk } ⁏ givenUp s time
 
 abbrev pub returned : (n : ℕ) → Tables → (desk time : ℕ) → Given → Released
-returned n s desk time a = released (putBack n s desk time (a .own)) (a .answer)
+returned n s desk time a = released (putBack n s desk (Known time) (a .own)) (a .answer)
 
 unfoldable pub givenUpAmong : (n : ℕ) → Tables → (desk time : ℕ) → Released
 givenUpAmong n s desk time =
     returned n s desk time
-    (yielded (stranger n desk or lacksThree n (length (s .places)) (length (s .rows)) (length (s .marks))) (ownOf n s desk time []) time)
+    (yielded (stranger n desk or lacksThree n (length (s .places)) (length (s .rows)) (length (s .marks)))
+    (ownOf n s desk (Known time) []) time)
 
 abbrev pub givenUpAt : Tables → Name → Released
 givenUpAt s who = givenUpAmong (desksOf (s .marks)) s (who .desk) (who .time)

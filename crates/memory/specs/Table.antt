@@ -1,15 +1,22 @@
 -- The tests on a place of the table. Assumes nothing.
 use Prim.Native.Nat.{ℕ}
-use mathlib.Core.Bool.{Bool, not}
+use mathlib.Core.Bool.{Bool, false, not}
 use Rattle.laws.specs.Rows.{_and_, _=?_}
+use Rattle.paper.specs.Words.{byTime}
+use Rattle.paper.specs.declared.Time.{Time}
 use Rattle.sample.specs.declared.Place.{Place}
 
--- the place is free; it is a desk's; it is that desk's sample of a time
+-- the place is free; it is a desk's
 abbrev pub vacant : Place → Bool
 vacant y = not (y .used)
 
 abbrev pub mine : (desk : ℕ) → Place → Bool
 mine desk y = y .used and y .desk =? desk
 
-abbrev pub isAt : (desk time : ℕ) → Place → Bool
-isAt desk time y = y .used and y .desk =? desk and y .time =? time
+-- a number is the running time: none is where that is unknown
+abbrev pub isTime : Time → (u : ℕ) → Bool
+isTime t u = byTime t (λ time. u =? time) false
+
+-- the place is a desk's sample of a time
+abbrev pub isAt : (desk : ℕ) → Time → Place → Bool
+isAt desk t y = y .used and y .desk =? desk and isTime t (y .time)

@@ -1,8 +1,11 @@
-// Answers as numbers, one after the other in a lent row, and the name of a sample from numbers. The answer to a unit is in `answers`.
+// Answers as numbers, one after the other in a lent row, and from numbers the name of a sample and who sends a unit. The answer to a unit
+// is in `answers`.
 use boxes::Found;
 use desk::GivenUp;
 use memory::Started;
 use paper::Name;
+use paper::Sender;
+use paper::Time;
 use style::Checked;
 use writer::Written;
 ghost use mathlib.Core.Path.{_≡_};
@@ -11,7 +14,7 @@ ghost use lib.ListN.{set};
 ghost use lib.Seq.{sets};
 ghost use Rattle.desk.specs.Desk.{givenUpNumber};
 ghost use Rattle.memory.specs.Relay.{startedNumber};
-ghost use Rattle.numbers.specs.Numbers.{checkedRow, writtenRow, steppedRow, nameOf};
+ghost use Rattle.numbers.specs.Numbers.{checkedRow, writtenRow, steppedRow, nameOf, timeOf, sentBy};
 
 // Stores a number in a row; past the end, nothing.
 pub fn put_at(row: &mut [u64], i: usize, v: usize)
@@ -68,6 +71,22 @@ pub fn name_of(desk: usize, time: u32) -> Name
     ensures { λ r. ⌜ r ≡ nameOf desk time ⌝ }
 {
     Name { desk, time }
+}
+
+fn time_of(known: usize, time: u32) -> Time
+    ensures { λ r. ⌜ r ≡ timeOf known time ⌝ }
+{
+    if known == 0 {
+        return Time::Unknown;
+    }
+    Time::Known(time)
+}
+
+pub fn sent_by(desk: usize, known: usize, time: u32) -> Sender
+    ensures { λ r. ⌜ r ≡ sentBy desk known time ⌝ }
+{
+    let t = time_of(known, time);
+    Sender { desk, time: t }
 }
 
 pub fn started_number(s: Started) -> usize

@@ -6,8 +6,10 @@ use mathlib.Core.Path.{_≡_, refl, sym, ap, subst, _∙_}
 use mathlib.Core.Bool.{Bool, true, false, true≢false}
 use mathlib.Core.List.{List, _++_}
 use lib.ListN.{length}
-use Rattle.laws.specs.Rows.{_⇒_⁏_, _=?_, _<?_, each, yes, no, eq, ge, ge-of, eq-of, and-of}
+use Rattle.laws.specs.Rows.{_⇒_⁏_, _<?_, each, yes, no, eq, ge, ge-of, and-of}
 use Rattle.paper.specs.Limits.{sampleMost}
+use Rattle.paper.specs.declared.Time.{Time}
+use Rattle.paper.specs.declared.Time.the-variants.{Known}
 use Rattle.unit.specs.declared.Part as P
 use Rattle.unit.specs.declared.Unit as U
 use Rattle.unit.specs.declared.Unit.the-variants.{Part}
@@ -16,13 +18,15 @@ use Rattle.writer.specs.Write.{Caption, sample, long, payload, uncut, wholeUnit
 use Rattle.writer.specs.Returns.{Writable, whole-count}
 use Rattle.again.specs.Again as A
 use Rattle.sample.specs.declared.Place.{Place}
-use Rattle.desk.specs.Desk.{laterPart, taken, received}
+use Rattle.desk.specs.Desk.{isText, laterPart, taken, received}
 use Rattle.desk.specs.Effects.{asks}
+use Rattle.memory.specs.Table.{isTime}
 use Rattle.memory.specs.Relay.{ordered}
+use Rattle.good.specs.Places.{time-of}
 use Rattle.good.specs.View.{View, ownIn, receives}
 use Rattle.peace.specs.Run.{Call, receive, give-up, lookup, Got, Few}
 use Rattle.peace.specs.Alone.{lone, own-got, own-view, Sparing}
-use Rattle.once.specs.Ours.{bears, offers, counts, payloadNumber, Begins, OneOf, Ours, NotGivenUp}
+use Rattle.once.specs.Ours.{offers, counts, payloadNumber, Begins, OneOf, Ours, NotGivenUp}
 use Rattle.once.specs.Due.{Stage, gathering, finished, handsOut, finishes, due, Due, brought, passed, onward, Soon, handing}
 use Rattle.once.specs.Keeping.{Bears}
 use Rattle.once.specs.Others.{Passes, passes}
@@ -67,33 +71,38 @@ module _ (c : Caption) (M room : ℕ) (writable : Writable c M room) (u : uncut 
       subst (λ (s : List ℕ). (readOf s .unit ≡ wholeUnit c) × (dataOf s (wholeUnit c) ≡ sample c) × (k ≡ 1)) i (r .0, r .1, e)
 
   -- its unit has TYPE 1 to 4 and tells its number
-  pub begins-told : (k : ℕ) (rest : List ℕ) → Begins c M k rest → (bears (readOf rest .unit) ≡ true) × (payloadNumber (readOf rest .unit) ≡ k)
+  pub begins-told : (k : ℕ) (rest : List ℕ) → Begins c M k rest
+      → (isText (readOf rest .unit) ≡ true) × (payloadNumber (readOf rest .unit) ≡ k)
   begins-told k rest b =
       each-case (long c M)
-      (λ l. let r = reads-part l k rest b in (ap bears (r .is), ap payloadNumber (r .is) ∙ r .bears .agrees .this))
-      (λ l. let r = reads-whole l k rest b in (ap bears (r .0), ap payloadNumber (r .0) ∙ sym (r .2)))
+      (λ l. let r = reads-part l k rest b in (ap isText (r .is), ap payloadNumber (r .is) ∙ r .bears .agrees .this))
+      (λ l. let r = reads-whole l k rest b in (ap isText (r .0), ap payloadNumber (r .0) ∙ sym (r .2)))
 
   module _ (time : ℕ) (v : View) where
     -- ---- a call that counts
     module _ (desk : ℕ) (rest out : List ℕ) (space : sampleMost ≤ length out) where
       received-as : (x : U.Unit) → readOf rest .unit ≡ x
-          → taken (lone v) (ownIn v time out) desk time (readOf rest .used) rest x ≡ receives (lone v) v desk time rest out
+          → taken (lone v) (ownIn v (Known time) out) desk (Known time) (readOf rest .used) rest x
+          ≡ receives (lone v) v desk (Known time) rest out
       unfolding ordered received
-      received-as x e = no _ _ refl (no _ _ (ge _ _ space) (ap (taken (lone v) (ownIn v time out) desk time (readOf rest .used) rest) (sym e)))
+      received-as x e =
+          no _ _ refl (no _ _ (ge _ _ space)
+          (ap (taken (lone v) (ownIn v (Known time) out) desk (Known time) (readOf rest .used) rest) (sym e)))
 
       -- it is due what payload number k is in stage s
       abbrev Reached : Stage → (k : ℕ) → Type 0
-      Reached s k = Serves c M time v out (due c M time s k) (brought c M s k) (receives (lone v) v desk time rest out)
+      Reached s k = Serves c M time v out (due c M time s k) (brought c M s k) (receives (lone v) v desk (Known time) rest out)
 
       module _ (k : ℕ) (b : Begins c M k rest) where
-        cut-served : Sparing v (receive desk time rest out) → long c M ≡ true → (came : ℕ → Bool) → Holds c M time v (gathering came) → Reached (gathering came) k
+        cut-served : Sparing v (receive desk (Known time) rest out) → long c M ≡ true → (came : ℕ → Bool)
+            → Holds c M time v (gathering came) → Reached (gathering came) k
         cut-served sparing l came h =
             let r = reads-part l k rest b in
             let x = r .part in
             let d = dataOf rest (Part x) in
             let used = readOf rest .used in
-            let few : asks (ownIn v time out) desk time rest (Part x) ≡ true → Few (v .opens) =
-            λ a. sparing (sym (no _ _ (ge _ _ space) (sym (ap (asks (ownIn v time out) desk time rest) (r .is) ∙ a)))) in
+            let few : asks (ownIn v (Known time) out) desk (Known time) rest (Part x) ≡ true → Few (v .opens) =
+            λ a. sparing (sym (no _ _ (ge _ _ space) (sym (ap (asks (ownIn v (Known time) out) desk (Known time) rest) (r .is) ∙ a)))) in
             same-served c M time v out refl refl (received-as (Part x) (r .is))
             (each-case (came k) (again-served c M time v out room writable u came h space l desk used (laterPart time x) k x d (r .bears))
             (λ new. new-served c M time v out room writable u came h space l desk used (laterPart time x) k x d (r .bears) new few))
@@ -102,9 +111,10 @@ module _ (c : Caption) (M room : ℕ) (writable : Writable c M room) (u : uncut 
         uncut-served l came h =
             let r = reads-whole l k rest b in
             same-served c M time v out (ap (due c M time (gathering came)) (sym (r .2))) (ap (brought c M (gathering came)) (sym (r .2)))
-            (received-as (wholeUnit c) (r .0)) (whole-served c M time v out room writable u came h space l (readOf rest .used) _ (r .1))
+            (received-as (wholeUnit c) (r .0)) (whole-served c M time v out room writable u came h space l (readOf rest .used) _ _ (r .1))
 
-        served : Sparing v (receive desk time rest out) → (s : Stage) → Holds c M time v s → Soon s → Reached s (payloadNumber (readOf rest .unit))
+        served : Sparing v (receive desk (Known time) rest out) → (s : Stage) → Holds c M time v s → Soon s
+            → Reached s (payloadNumber (readOf rest .unit))
         served sparing (gathering came) h soon =
             let t = sym (begins-told k rest b .1) in
             same-served c M time v out (ap (due c M time (gathering came)) t) (ap (brought c M (gathering came)) t) refl
@@ -132,15 +142,15 @@ module _ (c : Caption) (M room : ℕ) (writable : Writable c M room) (u : uncut 
           (passed-standing (v .at time) s (own-got v x) (h .standing));
     }
 
-    counted : (desk : ℕ) (rest out : List ℕ) → offers rest out ≡ true → Sparing v (receive desk time rest out) → OneOf c M rest
-        → (s : Stage) → Holds c M time v s → Soon s → Step (receive desk time rest out) s
+    counted : (desk : ℕ) (rest out : List ℕ) → offers rest out ≡ true → Sparing v (receive desk (Known time) rest out) → OneOf c M rest
+        → (s : Stage) → Holds c M time v s → Soon s → Step (receive desk (Known time) rest out) s
     counted desk rest out r sparing one s h soon =
         let space : sampleMost ≤ length out = each-case (length out <? sampleMost) (λ e. absurd (true≢false (sym r ∙ sym (yes _ _ e refl)))) (λ e. ge-of _ _ e) in
-        let n : counts time (receive desk time rest out) ≡ true = sym (yes _ _ (eq time time refl) (sym r)) in
+        let n : counts time (receive desk (Known time) rest out) ≡ true = sym (yes _ _ (eq time time refl) (sym r)) in
         let a = served desk rest out space (one .number) (one .begins) sparing s h soon in
         record {
           gets = λ e. (a .outcome, a .left);
-          holds = subst (Holds c M time (own-view v (receive desk time rest out))) (yes _ _ n refl) (a .holds);
+          holds = subst (Holds c M time (own-view v (receive desk (Known time) rest out))) (yes _ _ n refl) (a .holds);
           hands = sym (yes _ _ (eq time time refl) (sym (ap handsOut (a .outcome)))) ∙ yes _ _ n refl;
         }
 
@@ -149,8 +159,8 @@ module _ (c : Caption) (M room : ℕ) (writable : Writable c M room) (u : uncut 
     step (receive desk at rest out) sparing ours kept-up s h soon =
         each-case (counts time (receive desk at rest out))
         (λ e.
-        let b = and-of (at =? time) (offers rest out) e in
-        subst (λ (a : ℕ). Sparing v (receive desk a rest out) → Step (receive desk a rest out) s) (sym (eq-of at time (b .0)))
+        let b = and-of (isTime at time) (offers rest out) e in
+        subst (λ (a : Time). Sparing v (receive desk a rest out) → Step (receive desk a rest out) s) (sym (time-of at time (b .0)))
         (λ k. counted desk rest out (b .1) k (ours e) s h (soon e)) sparing)
         (λ e.
         let p = passes time v (h .fit) (receive desk at rest out) e kept-up s (h .timely) in

@@ -12,6 +12,7 @@ use Rattle.laws.specs.Rows.{each}
 use Rattle.laws.specs.Region.{length-cell}
 use Rattle.paper.specs.Limits.{window, recordSize, headSize, marksEach, storeSize}
 use Rattle.paper.specs.Words.{kindOf}
+use Rattle.paper.specs.declared.Time.{Time}
 use Rattle.paper.specs.declared.Outcome.{Outcome}
 use Rattle.paper.specs.declared.Outcome.the-variants as O
 use Rattle.unit.specs.declared.Description as D
@@ -40,27 +41,27 @@ not-noted x a b n = ⊎-elim (λ e. absurd (b (ap kindOf e))) (λ e. absurd (a (
 
 -- ---- one call: p is the payload that was written for the description d of SIDX, and more follows it
 module _ (SIDX : ℕ) (d p : List ℕ) (len N : ℕ) (w : DescribedAgain SIDX d p len N) (more book : List ℕ)
-    (h : Shares) (s : Own) (desk time : ℕ) (two : 1 < length (s .marks)) (long : window * recordSize ≤ length (s .store)) where
+    (h : Shares) (s : Own) (desk : ℕ) (t : Time) (two : 1 < length (s .marks)) (long : window * recordSize ≤ length (s .store)) where
   abbrev unit : D.Description
   unit = record { sidx = SIDX; start = 4; len = length d }
 
-  is-taken : received h s desk time (p ++ more) ≡ descriptionTaken s time len unit d
+  is-taken : received h s desk t (p ++ more) ≡ descriptionTaken s t len unit d
   unfolding received
   is-taken =
-      ap (λ (r : Reading). taken h s desk time (r .used) (p ++ more) (r .unit)) (w .read more)
-      ∙ ap (descriptionTaken s time len unit) (w .bytes more)
+      ap (λ (r : Reading). taken h s desk t (r .used) (p ++ more) (r .unit)) (w .read more)
+      ∙ ap (descriptionTaken s t len unit) (w .bytes more)
 
   abbrev Shows : After → Type 0
   Shows a = Noted (a .answer .outcome) → S.shown book (a .own .store) (newestOf (a .own .marks)) SIDX ≡ d
 
-  taken-shows : Shows (descriptionTaken s time len unit d)
+  taken-shows : Shows (descriptionTaken s t len unit d)
   unfolding descriptionTaken
   taken-shows n =
       let x = noted (s .store) (newestOf (s .marks)) SIDX d in
       ap (λ (k : ℕ). S.shown book (x .store) k SIDX) (getD-set-same (s .marks) 1 (x .answer .newest) 0 two)
       ∙ w .shows book (s .store) (newestOf (s .marks)) long n
 
-  pub received-shows : Shows (ordered false h s desk time (p ++ more))
+  pub received-shows : Shows (ordered false h s desk t (p ++ more))
   unfolding ordered
   received-shows =
       each Shows _ _ _ (λ e. not-noted _ (λ k. omega arith) (λ k. omega arith))
@@ -73,21 +74,21 @@ NotedGot (released a) = ⊥
 NotedGot (shown x) = ⊥
 
 pub shown-as-written : (n desk : ℕ) → desk < n → (s : Tables) → Good n s → (SIDX : ℕ) (d : List ℕ) (M k : ℕ) (lent : List ℕ) (len N : ℕ)
-    → described SIDX d M k lent .answer ≡ Payload len N → (time : ℕ) (more out book : List ℕ)
-    → let c = receive desk time (take len (described SIDX d M k lent .out) ++ more) out in
+    → described SIDX d M k lent .answer ≡ Payload len N → (t : Time) (more out book : List ℕ)
+    → let c = receive desk t (take len (described SIDX d M k lent .out) ++ more) out in
     NotedGot (got s c) → got (next s c) (lookup desk SIDX book) ≡ shown d
-shown-as-written n desk l s g SIDX d M k lent len N e time more out book q =
+shown-as-written n desk l s g SIDX d M k lent len N e t more out book q =
     let p = take len (described SIDX d M k lent .out) in
-    let c = receive desk time (p ++ more) out in
+    let c = receive desk t (p ++ more) out in
     let v = view n desk s in
-    let a = receives (sharesOf n desk (placesOf n s)) v desk time (p ++ more) out in
-    let o = receive-own n s g desk l time (p ++ more) out in
+    let a = receives (sharesOf n desk (placesOf n s)) v desk t (p ++ more) out in
+    let o = receive-own n s g desk l t (p ++ more) out in
     let two : 1 < length (v .marks) = omega (arith, length-cell headSize marksEach n desk (s .marks) (g .marks) l) in
     let long : window * recordSize ≤ length (v .store) = omega (arith, length-front storeSize n desk (s .stores) (g .stores) l) in
     let w = described-again SIDX d M k lent len N e in
-    let r = received-shows SIDX d p len N w more book (sharesOf n desk (placesOf n s)) (ownIn v time out) desk time two long in
+    let r = received-shows SIDX d p len N w more book (sharesOf n desk (placesOf n s)) (ownIn v t out) desk t two long in
     let b : Noted (a .answer .outcome) =
-    subst (λ (z : Done). Noted (z .answer .outcome)) (receive-is n s g desk l time (p ++ more) out) q in
+    subst (λ (z : Done). Noted (z .answer .outcome)) (receive-is n s g desk l t (p ++ more) out) q in
     ap shown
     (lookup-is n (next s c) (next-good n s g c) desk l SIDX book
     ∙ ap (λ (z : View). S.shown book (z .store) (newestOf (z .marks)) SIDX) o

@@ -20,6 +20,7 @@ use Rattle.desk.specs.declared.GivenUp.{GivenUp}
 use Rattle.desk.specs.declared.GivenUp.the-variants.{Freed}
 use Rattle.desk.specs.declared.GivenUp.the-variants as G
 use Rattle.desk.specs.Desk.{facts}
+use Rattle.memory.specs.Table.{isTime}
 use Rattle.peace.specs.Run.{Call, receive, give-up, lookup, Got, answered, released, shown}
 use Rattle.once.specs.Ours.{counts, payloadNumber, Every, EachGot, Ours, NotGivenUp, Comes}
 
@@ -123,7 +124,7 @@ AllDue c M time s (x ∷ xs) (g ∷ gs) = (counts time x ≡ true → Due c M ti
 
 -- how many calls at the time answer whole or joined
 abbrev pub handing : (time : ℕ) → Call → Got → Bool
-handing time (receive desk at rest out) (answered a after) = at =? time and handsOut (a .outcome)
+handing time (receive desk at rest out) (answered a after) = isTime at time and handsOut (a .outcome)
 handing time (receive desk at rest out) (released a) = false
 handing time (receive desk at rest out) (shown d) = false
 handing time (give-up desk at) g = false

@@ -12,6 +12,7 @@ use Rattle.laws.specs.Sums.{sum-zero, sum-ones}
 use Rattle.laws.specs.Table.{bit}
 use Rattle.paper.specs.Limits.{finishedMost}
 use Rattle.paper.specs.declared.Refusal.{Refusal}
+use Rattle.paper.specs.declared.Time.{Time}
 use Rattle.paper.specs.declared.Outcome.{Outcome}
 use Rattle.unit.specs.Layout.{readOf}
 use Rattle.writer.specs.Write.{Caption, long, count, uncut, unwritable, After, written}
@@ -21,6 +22,7 @@ use Rattle.writer.specs.Payloads.{total}
 use Rattle.sample.specs.Place.{bare}
 use Rattle.finished.specs.Until.{none-late}
 use Rattle.desk.specs.Desk.{sampleOf}
+use Rattle.memory.specs.Table.{isTime}
 use Rattle.memory.specs.declared.Started.the-variants.{Ready}
 use Rattle.memory.specs.Relay.{Tables, setUp}
 use Rattle.good.specs.Good.{set-up-good}
@@ -116,7 +118,8 @@ module _ (c : Caption) (M room : ℕ) (w : Writable c M room) (u : uncut c M ≡
 
   brings-counts : (k : ℕ) (x : Call) → Brings c M time k x → counts time x ≡ true
   brings-counts k (receive desk at rest out) b =
-      sym (yes _ _ (eq at time (b .0)) (no _ _ (ge _ _ (b .1)) (sym (begins-told c M room w u k rest (b .2) .0))))
+      sym (yes _ _ (ap (λ (a : Time). isTime a time) (b .0) ∙ eq time time refl)
+      (no _ _ (ge _ _ (b .1)) (sym (begins-told c M room w u k rest (b .2) .0))))
   brings-counts k (give-up desk at) b = absurd b
   brings-counts k (lookup desk index book) b = absurd b
 
@@ -125,8 +128,8 @@ module _ (c : Caption) (M room : ℕ) (w : Writable c M room) (u : uncut c M ≡
   passed-awaits (gathering came) x g xs n a = λ k i j e. ⊎-elim (λ b. absurd (true≢false (sym (brings-counts k x b) ∙ n))) (λ t. t) (a k i j e)
   passed-awaits (finished since) x g xs n a = each (λ (t : Stage). Awaits c M time t xs) (finishes g) _ _ (λ e. tt) (λ e. tt)
 
-  brought-awaits : (s : Stage) (desk at : ℕ) (rest out : List ℕ) (xs : List Call) → Awaits c M time s (receive desk at rest out ∷ xs)
-      → Awaits c M time (brought c M s (payloadNumber (readOf rest .unit))) xs
+  brought-awaits : (s : Stage) (desk : ℕ) (at : Time) (rest out : List ℕ) (xs : List Call)
+      → Awaits c M time s (receive desk at rest out ∷ xs) → Awaits c M time (brought c M s (payloadNumber (readOf rest .unit))) xs
   brought-awaits (gathering came) desk at rest out xs a =
       each (λ (t : Stage). Awaits c M time t xs) _ _ _
       (λ m k i j e.

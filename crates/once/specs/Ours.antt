@@ -6,32 +6,26 @@ use mathlib.Core.Bool.{Bool, true, false}
 use mathlib.Core.Logic.{_⊎_}
 use mathlib.Core.List.{List, [], _∷_, _++_}
 use lib.ListN.{length}
-use Rattle.laws.specs.Rows.{_⇒_⁏_, _<?_, _=?_}
+use Rattle.laws.specs.Rows.{_⇒_⁏_, _<?_}
 use Rattle.paper.specs.Limits.{sampleMost}
+use Rattle.paper.specs.declared.Time.the-variants.{Known}
 use Rattle.unit.specs.declared.Unit as U
 use Rattle.unit.specs.declared.Unit.the-variants.{End, Skipped, Refused, Whole, Part, Description}
 use Rattle.unit.specs.Layout.{readOf}
 use Rattle.writer.specs.Write.{Caption, count, payload}
 use Rattle.desk.specs.declared.GivenUp.the-variants.{Freed}
+use Rattle.desk.specs.Desk.{isText}
+use Rattle.memory.specs.Table.{isTime}
 use Rattle.peace.specs.Run.{Call, receive, give-up, lookup, Got, released}
 
 -- ---- the calls that count
--- a unit of TYPE 1 to 4
-abbrev pub bears : U.Unit → Bool
-bears End = false
-bears (Skipped t) = false
-bears (Refused r) = false
-bears (Whole w) = true
-bears (Part x) = true
-bears (Description w) = false
-
--- it is the first of the rest, and not refused by 2 to 4 or 17
+-- a text unit is the first of the rest, and not refused by 2 to 4 or 17
 abbrev pub offers : (rest out : List ℕ) → Bool
-offers rest out = length out <? sampleMost ⇒ false ⁏ bears (readOf rest .unit)
+offers rest out = length out <? sampleMost ⇒ false ⁏ isText (readOf rest .unit)
 
--- and the call is at the time
+-- and the call is at the time; one at an unknown time is at none
 abbrev pub counts : (time : ℕ) → Call → Bool
-counts time (receive desk at rest out) = at =? time ⇒ offers rest out ⁏ false
+counts time (receive desk at rest out) = isTime at time ⇒ offers rest out ⁏ false
 counts time (give-up desk at) = false
 counts time (lookup desk index book) = false
 
@@ -80,7 +74,7 @@ EachGot P (c ∷ cs) (g ∷ gs) = P c g × EachGot P cs gs
 
 -- payload number k comes at the time with an output of at least 1,024
 abbrev pub Brings : Caption → (M time k : ℕ) → Call → Type 0
-Brings c M time k (receive desk at rest out) = (at ≡ time) × (sampleMost ≤ length out) × Begins c M k rest
+Brings c M time k (receive desk at rest out) = (at ≡ Known time) × (sampleMost ≤ length out) × Begins c M k rest
 Brings c M time k (give-up desk at) = ⊥
 Brings c M time k (lookup desk index book) = ⊥
 

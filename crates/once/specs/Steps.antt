@@ -9,6 +9,8 @@ use lib.Seq.{sets, sets-eq, getD-set-same}
 use Rattle.laws.specs.Rows.{_=?_, _<?_, each, yes, no, eq, lt, ge, eq-of, lt-of, ge-of}
 use Rattle.paper.specs.Limits.{sampleMost, finishedMost}
 use Rattle.paper.specs.declared.Refusal.the-variants as R
+use Rattle.paper.specs.declared.Time.{Time}
+use Rattle.paper.specs.declared.Time.the-variants.{Known}
 use Rattle.paper.specs.declared.Outcome.{Outcome}
 use Rattle.paper.specs.declared.Outcome.the-variants as O
 use Rattle.unit.specs.declared.Whole as W
@@ -21,12 +23,12 @@ use Rattle.sample.specs.declared.Place.{Place}
 use Rattle.sample.specs.Place.{closed, kept, missing}
 use Rattle.finished.specs.Times.{markedUsed}
 use Rattle.finished.specs.Marks.{rowAfter, usedAfter, length-kept}
-use Rattle.desk.specs.Desk.{Own, After, own, says, stay, inUse, finish, facts, later, wholeTaken, sampleOf, conflicts, six, usedUp, completed, joining, taken}
+use Rattle.desk.specs.Desk.{isText, Own, After, own, says, stay, inUse, finish, facts, wholeTaken, sampleOf, conflicts, six, usedUp}
+use Rattle.desk.specs.Desk.{completed, joining, taken}
 use Rattle.desk.specs.Effects.{asksPart}
 use Rattle.good.specs.View.{View, ownIn, seenAfter}
 use Rattle.peace.specs.Run.{Few}
 use Rattle.peace.specs.Alone.{lone}
-use Rattle.once.specs.Ours.{bears}
 use Rattle.once.specs.Due.{handsOut, Stage, gathering, finished, with, awaited, due, output, brought}
 use Rattle.once.specs.Keeping.{Bears, Gathered, Only, with-only, missing-awaited, word-all, sound-all, together-all, string-all}
 use Rattle.once.specs.Adding.{agrees-ours, repeats-ours, no-repeat, fresh, kept-gathered}
@@ -56,7 +58,7 @@ pub record Holds (c : Caption) (M time : ℕ) (v : View) (s : Stage) : Type 0 wh
 pub record Serves (c : Caption) (M time : ℕ) (v : View) (out : List ℕ) (x : Outcome) (s : Stage) (a : After) : Type 0 where
   pub outcome : a .answer .outcome ≡ x
   pub left : a .own .out ≡ output c x out
-  pub holds : Holds c M time (seenAfter v time (a .own)) s
+  pub holds : Holds c M time (seenAfter v (Known time) (a .own)) s
 
 pub each-case : {P : Type 0} (b : Bool) → (b ≡ true → P) → (b ≡ false → P) → P
 each-case true h k = h refl
@@ -66,18 +68,18 @@ pub with-again : (came : ℕ → Bool) (k : ℕ) → came k ≡ true → with ca
 with-again came k e = λ i j. each (λ (b : Bool). b ≡ came j) (j =? k) true (came j) (λ q. sym (ap came (eq-of j k q) ∙ e)) (λ q. refl) i
 
 module _ (c : Caption) (M time : ℕ) (v : View) (out : List ℕ) where
-  stood : (o : Own) → seenAfter v time o .at time ≡ o .place
+  stood : (o : Own) → seenAfter v (Known time) o .at time ≡ o .place
   stood o = sym (yes _ _ (eq time time refl) refl)
 
   -- ---- the row, the marks and the place as they were
-  same-holds : (s : Stage) → Holds c M time v s → Holds c M time (seenAfter v time (ownIn v time out)) s
+  same-holds : (s : Stage) → Holds c M time v s → Holds c M time (seenAfter v (Known time) (ownIn v (Known time) out)) s
   same-holds s h = record {
     fit = record { row = h .fit .row; marks = h .fit .marks };
     timely = same-timely s (h .timely);
-    standing = subst (λ (p : Place). Standing c M time p s) (sym (stood (ownIn v time out))) (h .standing);
+    standing = subst (λ (p : Place). Standing c M time p s) (sym (stood (ownIn v (Known time) out))) (h .standing);
   }
     where
-      same-timely : (s : Stage) → Timely v time s → Timely (seenAfter v time (ownIn v time out)) time s
+      same-timely : (s : Stage) → Timely v time s → Timely (seenAfter v (Known time) (ownIn v (Known time) out)) time s
       same-timely (gathering came) t = t
       same-timely (finished since) t = record {
         row = t .row;
@@ -90,7 +92,8 @@ module _ (c : Caption) (M time : ℕ) (v : View) (out : List ℕ) where
       }
 
   -- the sample is finished
-  ended-holds : Fit v → (p : Place) (o : List ℕ) → Holds c M time (seenAfter v time (finish (ownIn v time out) time p o)) (finished 0)
+  ended-holds : Fit v → (p : Place) (o : List ℕ)
+      → Holds c M time (seenAfter v (Known time) (finish (ownIn v (Known time) out) time p o)) (finished 0)
   unfolding rowAfter usedAfter
   ended-holds f p o = record {
     fit = record {
@@ -110,12 +113,13 @@ module _ (c : Caption) (M time : ℕ) (v : View) (out : List ℕ) where
   }
 
   -- ---- an answer that changes nothing; and the sample handed out
-  stayed : (s : Stage) → Holds c M time v s → (used next : ℕ) (x : Outcome) → handsOut x ≡ false
-      → Serves c M time v out x s (stay (ownIn v time out) used next x)
+  stayed : (s : Stage) → Holds c M time v s → (used : ℕ) (next : Time) (x : Outcome) → handsOut x ≡ false
+      → Serves c M time v out x s (stay (ownIn v (Known time) out) used next x)
   stayed s h used next x e = record { outcome = refl; left = no _ _ e refl; holds = same-holds s h }
 
-  given : Fit v → length (sample c) ≤ sampleMost → sampleMost ≤ length out → (p : Place) (used next : ℕ) (x : Outcome) → handsOut x ≡ true
-      → Serves c M time v out x (finished 0) (record { own = finish (ownIn v time out) time p (sets out 0 (sample c)); answer = says used next x })
+  given : Fit v → length (sample c) ≤ sampleMost → sampleMost ≤ length out → (p : Place) (used : ℕ) (next : Time) (x : Outcome)
+      → handsOut x ≡ true → Serves c M time v out x (finished 0)
+      (record { own = finish (ownIn v (Known time) out) time p (sets out 0 (sample c)); answer = says used next x })
   given f small room p used next x e =
       let z : 0 + length (sample c) ≡ length (sample c) = omega arith in
       let front : sets out 0 (sample c) ≡ sample c ++ drop (length (sample c)) out =
@@ -128,8 +132,9 @@ module _ (c : Caption) (M time : ℕ) (v : View) (out : List ℕ) where
       subst (λ (z : Outcome). Serves c M time v out z t b) e (subst (λ (z : Stage). Serves c M time v out x z b) f (subst (Serves c M time v out x s) g h))
 
   -- ---- after it is finished: refusal 6
-  pub late-served : (since : ℕ) → Holds c M time v (finished since) → since < finishedMost → (desk used : ℕ) (rest : List ℕ) (x : U.Unit) → bears x ≡ true
-      → Serves c M time v out (O.Refused R.Late) (finished since) (taken (lone v) (ownIn v time out) desk time used rest x)
+  pub late-served : (since : ℕ) → Holds c M time v (finished since) → since < finishedMost
+      → (desk used : ℕ) (rest : List ℕ) (x : U.Unit) → isText x ≡ true
+      → Serves c M time v out (O.Refused R.Late) (finished since) (taken (lone v) (ownIn v (Known time) out) desk (Known time) used rest x)
   unfolding wholeTaken joining
   late-served since h soon desk used rest End b = absurd (true≢false (sym b))
   late-served since h soon desk used rest (Skipped t) b = absurd (true≢false (sym b))
@@ -152,21 +157,22 @@ module _ (c : Caption) (M time : ℕ) (v : View) (out : List ℕ) where
           let n : count c M ≡ 1 = whole-count c M l in
           rw (n, e)
 
-      pub whole-served : (used : ℕ) (d : List ℕ) → d ≡ sample c
+      pub whole-served : (used : ℕ) (next : Time) (d : List ℕ) → d ≡ sample c
           → Serves c M time v out (due c M time (gathering came) 1) (brought c M (gathering came) 1)
-          (wholeTaken (ownIn v time out) time used (wholeOf c) d)
+          (wholeTaken (ownIn v (Known time) out) time used next (wholeOf c) d)
       unfolding wholeTaken
-      whole-served used d e =
+      whole-served used next d e =
           let n = h .standing .uncut l in
           let none-lacks : (0 <? awaited (count c M) (with came 1)) ≡ false = ge _ _ (omega (arith, one-lacks)) in
           let f = O.Whole (facts time (c .U) (c .SIDX) (c .SDUR) (length (c .string)) (length (sample c))) in
-          let a : List ℕ → After = λ y. record { own = finish (ownIn v time out) time (v .at time) (sets out 0 y); answer = says used (later time (c .SDUR)) f } in
+          let a : List ℕ → After =
+          λ y. record { own = finish (ownIn v (Known time) out) time (v .at time) (sets out 0 y); answer = says used next f } in
           same-served (no _ _ (n .1 1) (no _ _ none-lacks (no _ _ l refl))) (no _ _ none-lacks refl)
           (no _ _ (h .timely) (no _ _ (n .0) (no _ _ (ge _ _ (writable .small)) (ap a (sym e)))))
-          (given (h .fit) (writable .small) space (v .at time) used (later time (c .SDUR)) f refl)
+          (given (h .fit) (writable .small) space (v .at time) used next f refl)
 
     -- ---- a part of one that is cut; q is the sample that it belongs to
-    module _ (l : long c M ≡ true) (desk used next k : ℕ) (x : P.Part) (d : List ℕ) (b : Bears c M k x d) where
+    module _ (l : long c M ≡ true) (desk used : ℕ) (next : Time) (k : ℕ) (x : P.Part) (d : List ℕ) (b : Bears c M k x d) where
       abbrev pub q : Place
       q = sampleOf (v .at time) desk time x
 
@@ -177,7 +183,7 @@ module _ (c : Caption) (M time : ℕ) (v : View) (out : List ℕ) where
       Served = Serves c M time v out (due c M time (gathering came) k) (brought c M (gathering came) k)
 
       -- it came before
-      pub again-served : came k ≡ true → Served (joining (lone v) (ownIn v time out) time used next q x d)
+      pub again-served : came k ≡ true → Served (joining (lone v) (ownIn v (Known time) out) time used next q x d)
       unfolding joining
       again-served e =
           let w = with-again came k e in
@@ -199,7 +205,7 @@ module _ (c : Caption) (M time : ℕ) (v : View) (out : List ℕ) where
         lacks = missing-awaited c M room writable u l (with came k) p g' in-it
 
         -- some are missing still
-        kept-served : (0 <? awaited (count c M) (with came k)) ≡ true → Served (completed (ownIn v time out) time used next p)
+        kept-served : (0 <? awaited (count c M) (with came k)) ≡ true → Served (completed (ownIn v (Known time) out) time used next p)
         unfolding completed sampleOf
         kept-served e =
             let m = awaited (count c M) (with came k) in
@@ -223,7 +229,7 @@ module _ (c : Caption) (M time : ℕ) (v : View) (out : List ℕ) where
             })
 
         -- it was the last
-        joined-served : (0 <? awaited (count c M) (with came k)) ≡ false → Served (completed (ownIn v time out) time used next p)
+        joined-served : (0 <? awaited (count c M) (with came k)) ≡ false → Served (completed (ownIn v (Known time) out) time used next p)
         unfolding completed
         joined-served e =
             let z : awaited (count c M) (with came k) ≡ 0 = omega (arith, ge-of _ _ e) in
@@ -236,8 +242,8 @@ module _ (c : Caption) (M time : ℕ) (v : View) (out : List ℕ) where
             (yes _ _ (sound-all c M room writable u l (with came k) p g' z) (rw (t, r, w .0, w .1, g' .sdur))))
             (given (h .fit) (writable .small) space closed used next f refl)
 
-        pub new-served : (asksPart (ownIn v time out) time q x d ≡ true → Few (v .opens))
-            → Served (joining (lone v) (ownIn v time out) time used next q x d)
+        pub new-served : (asksPart (ownIn v (Known time) out) time q x d ≡ true → Few (v .opens))
+            → Served (joining (lone v) (ownIn v (Known time) out) time used next q x d)
         unfolding joining asksPart six usedUp conflicts
         new-served sparing =
             let r = no-repeat c M room writable u l came q g k x d b new in

@@ -2,7 +2,7 @@
 -- keep to all that 'handed out once' presumes. And how long a repeat is late: until sixteen more samples are finished. Assumes nothing.
 use Prim.Native.Nat.{ℕ, zero, suc, _+_, _≤_, _<_}
 use native.Mathlib.Omega.{arith}
-use mathlib.Core.Path.{_≡_, refl, sym, ap, ap₂, subst, _∙_}
+use mathlib.Core.Path.{_≡_, refl, sym, ap, subst}
 use mathlib.Core.Bool.{true, false, true≢false}
 use mathlib.Core.Logic.{inl, inr}
 use mathlib.Core.List.{List, [], _∷_, _++_, flatten}
@@ -11,6 +11,7 @@ use lib.ListN.{length, getD, replicate, length-replicate}
 use Rattle.laws.specs.Rows.{_⇒_⁏_, _<?_, _=?_}
 use Rattle.paper.specs.Limits.{sampleMost}
 use Rattle.paper.specs.declared.Refusal.the-variants as R
+use Rattle.paper.specs.declared.Time.the-variants.{Known}
 use Rattle.paper.specs.declared.Outcome.{Outcome}
 use Rattle.paper.specs.declared.Outcome.the-variants as O
 use Rattle.text.specs.Chart.{chart, within, follows, charted}
@@ -27,16 +28,15 @@ use Rattle.sample.specs.Place.{piecesOf}
 use Rattle.finished.specs.Times.{among, movedRow, markedRow, markedUsed}
 use Rattle.desk.specs.declared.GivenUp.the-variants.{Freed}
 use Rattle.desk.specs.declared.GivenUp.the-variants as G
-use Rattle.desk.specs.Desk.{says, laterPart, wholeTaken, sampleOf, conflicts, six, usedUp, completed, joining, received, givenUp}
+use Rattle.desk.specs.Desk.{says, later, laterPart, wholeTaken, sampleOf, conflicts, six, usedUp, completed, joining, received, givenUp}
 use Rattle.desk.specs.Effects.{asksPart}
 use Rattle.octets.specs.Same.{same}
 use Rattle.memory.specs.declared.Started.the-variants.{Ready}
 use Rattle.memory.specs.Relay.{Tables, setUp, ordered, yielded}
-use Rattle.good.specs.Good.{set-up-good}
-use Rattle.good.specs.View.{View, view}
-use Rattle.good.specs.Fresh.{freshView, set-up-view}
+use Rattle.good.specs.Fresh.{freshView}
 use Rattle.peace.specs.Run.{Call, receive, give-up, Got, answered, released, shown, run, to, only}
-use Rattle.peace.specs.Alone.{alone, Frugal, frugal-modest, as-frugal}
+use Rattle.peace.specs.Alone.{alone, Frugal}
+use Rattle.peace.specs.Peace.{as-fresh, fresh-modest}
 use Rattle.once.specs.Ours.{Begins, OneOf, NotGivenUp, EachGot, Comes}
 use Rattle.once.specs.Due.{awaited, start, AllSoon, Coming, HandedOnce}
 use Rattle.once.specs.Once.{handed-out-once}
@@ -70,7 +70,7 @@ abbrev blank : List ℕ
 blank = replicate sampleMost 0
 
 abbrev gets : (desk : ℕ) → (rest : List ℕ) → Call
-gets desk rest = receive desk 5 rest blank
+gets desk rest = receive desk (Known 5) rest blank
 
 -- ---- the captions, and that these are the payloads that the writer gives of them
 abbrev blnk : List ℕ
@@ -116,7 +116,7 @@ room = omega (arith, length-replicate {A = ℕ} sampleMost 0)
 -- with more in its rest, a give-up that is refused, and the first again
 abbrev calls : (desk : ℕ) → List Call
 calls desk =
-    give-up desk 5 ∷ gets desk second ∷ receive desk 5 first [] ∷ gets desk second ∷ gets desk (first ++ second) ∷ give-up desk 5
+    give-up desk 5 ∷ gets desk second ∷ receive desk (Known 5) first [] ∷ gets desk second ∷ gets desk (first ++ second) ∷ give-up desk 5
     ∷ gets desk first ∷ []
 
 -- a whole sample between two give-ups that are refused, and it again
@@ -142,7 +142,7 @@ pub record Meets (c : Caption) (M : ℕ) (xs : List Call) : Type 0 where
 
 meets : (desk : ℕ) → Meets hi 19 (calls desk) × Meets plain 14 (whole-calls desk) × Meets abc 17 (three-calls desk)
 unfolding _⇒_⁏_ _<?_ _=?_ readOf broken judged textJudged illText fieldsOf least badPart badWhole bare outside has agrees stands repeats
-    oversize toldOf telling laid kept missing piecesIn piecesOf among laterPart sampleOf conflicts six usedUp completed joining
+    oversize toldOf telling laid kept missing piecesIn piecesOf among later laterPart sampleOf conflicts six usedUp completed joining
     wholeTaken received ordered ones movedRow markedRow markedUsed J.laters J.going J.ordered J.sound flatten asksPart same givenUp
     yielded awaited count long pieces modified cuts cutsWithin reach reachWithin wellFormed wellWithin character chart within
     follows charted
@@ -234,14 +234,11 @@ module _ (c : Caption) (M N : ℕ) (xs : List Call) (f : Frugal freshView xs) (p
       → HandedOnce c M 5 xs (to d (run (setUp n s .tables) ys))
   anywhere n d h s e ys q =
       let r = setUp n s .tables in
-      let g = set-up-good n s e in
-      let v : view n d r ≡ freshView = set-up-view n d s e h in
-      let k : Frugal (view n d r) (only d ys) = subst (λ (w : View). Frugal w (only d ys)) (sym v) (subst (Frugal freshView) (sym q) f) in
-      let t : alone freshView xs ≡ to d (run r ys) = sym (as-frugal n d h ys r g k ∙ ap₂ alone v q) in
       let z : Coming c M N 5 (only d ys) (to d (run r ys)) =
-      subst (λ (l : List Call). Coming c M N 5 l (to d (run r ys))) (sym q) (subst (Coming c M N 5 xs) t p) in
+      subst (λ (l : List Call). Coming c M N 5 l (to d (run r ys))) (sym q)
+      (subst (Coming c M N 5 xs) (sym (as-fresh n d h s e ys xs q f)) p) in
       subst (λ (l : List Call). HandedOnce c M 5 l (to d (run r ys))) q
-      (handed-out-once n d h s e ys (frugal-modest n d h ys r g k) c M N 5 z)
+      (handed-out-once n d h s e ys (fresh-modest n d h s e ys xs q f) c M N 5 z)
 
 pub in-any-run : (n d : ℕ) → d < n → (s : Tables) → setUp n s .answer ≡ Ready → (xs : List Call) → only d xs ≡ calls d
     → HandedOnce hi 19 5 (calls d) (to d (run (setUp n s .tables) xs))
@@ -258,18 +255,18 @@ three-in-any-run n d = anywhere abc 17 3 (three-calls d) (meets d .2 .frugal) (t
 -- ---- the sharp edge: n other samples finish, and the first part comes again
 abbrev others : (n : ℕ) → List Call
 others zero = gets 0 first ∷ []
-others (suc n) = receive 0 (100 + n) empty blank ∷ others n
+others (suc n) = receive 0 (Known (100 + n)) empty blank ∷ others n
 
 abbrev run-with : (n : ℕ) → List Call
 run-with n = gets 0 first ∷ gets 0 second ∷ others n
 
 abbrev hears : Outcome → Got
-hears x = answered (says 12 5 x) blank
+hears x = answered (says 12 (Known 5) x) blank
 
 -- fifteen samples later it is late, and sixteen later it opens the sample anew
 pub sharp-edge : (getD (alone freshView (run-with 15)) 17 (shown []) ≡ hears (O.Refused R.Late)) × (getD (alone freshView (run-with 16)) 18 (shown []) ≡ hears (O.Kept 1))
 unfolding _⇒_⁏_ _<?_ _=?_ readOf broken judged textJudged illText fieldsOf least badPart badWhole bare outside has agrees stands repeats
-    oversize toldOf telling laid kept missing piecesIn piecesOf among laterPart sampleOf conflicts six usedUp completed joining
+    oversize toldOf telling laid kept missing piecesIn piecesOf among later laterPart sampleOf conflicts six usedUp completed joining
     wholeTaken received ordered ones movedRow markedRow markedUsed J.laters J.going J.ordered J.sound flatten wellFormed wellWithin
     character chart within follows charted
 sharp-edge = (refl, refl)

@@ -1,10 +1,12 @@
--- What the cases of the paper's enums stand for: each refusal's number, and each outcome's place in the paper's list with the
--- values that the paper gives with it. Assumes nothing.
+-- What the cases of the paper's enums stand for: each refusal's number, the running time, and each outcome's place in the paper's list
+-- with the values that the paper gives with it. Assumes nothing.
 use Prim.Native.Nat.{ℕ}
 use mathlib.Core.List.{List, [], _∷_}
 use Rattle.paper.specs.declared.Refusal.{Refusal}
 use Rattle.paper.specs.declared.Refusal.the-variants.{Desk, Output, Frame, Fields, Size, Late, Conflict, Six, Common, Spoiled}
-use Rattle.paper.specs.declared.Refusal.the-variants.{NotOpen, Writer, Parts, Payload, Box, Book, IllFormed}
+use Rattle.paper.specs.declared.Refusal.the-variants.{NotOpen, Writer, Parts, Payload, Box, Book, IllFormed, Untimed}
+use Rattle.paper.specs.declared.Time.{Time}
+use Rattle.paper.specs.declared.Time.the-variants.{Known, Unknown}
 use Rattle.paper.specs.declared.Outcome.{Outcome}
 use Rattle.paper.specs.declared.Outcome.the-variants.{End, Whole, Joined, Kept, Repeat, Described, Skipped, Refused}
 use Rattle.paper.specs.declared.Facts.{Facts}
@@ -40,6 +42,13 @@ numberOf Box = 15
 numberOf Book = 16
 -- a string that is not well-formed
 numberOf IllFormed = 17
+-- a text unit at an unknown time
+numberOf Untimed = 18
+
+-- ---- the running time is known, with its number, or unknown: what is so at a known one, and what at an unknown one
+abbrev pub byTime : {A : Type 0} → Time → (ℕ → A) → A → A
+byTime (Known time) known unknown = known time
+byTime Unknown known unknown = unknown
 
 -- the outcomes in the paper's order
 abbrev pub kindOf : Outcome → ℕ

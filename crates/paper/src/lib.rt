@@ -23,12 +23,25 @@ pub enum Refusal {
     Box,
     Book,
     IllFormed,
+    Untimed,
 }
 
-// The name of a sample: its desk and its running time.
+// The running time of a unit. Behind a line whose duration is not known yet it is unknown; every number is a time.
+pub enum Time {
+    Known(u32),
+    Unknown,
+}
+
+// The name of a sample: its desk and its time.
 pub struct Name {
     pub desk: usize,
     pub time: u32,
+}
+
+// Who sends a unit: a desk, and the running time.
+pub struct Sender {
+    pub desk: usize,
+    pub time: Time,
 }
 
 // What is told of a sample that is handed out: its time, U, SIDX, SDUR, and how long its string and all of it are.
@@ -57,7 +70,7 @@ pub enum Outcome {
 // What a call answers: the bytes used, the next running time, the outcome.
 pub struct Answer {
     pub used: usize,
-    pub next: u32,
+    pub next: Time,
     pub outcome: Outcome,
 }
 
@@ -82,6 +95,7 @@ pub fn number(r: Refusal) -> usize
         Refusal::Box => 15,
         Refusal::Book => 16,
         Refusal::IllFormed => 17,
+        Refusal::Untimed => 18,
     }
 }
 

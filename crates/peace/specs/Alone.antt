@@ -6,14 +6,17 @@ use mathlib.Core.Bool.{Bool, true, false}
 use mathlib.Core.List.{List, [], _∷_}
 use Rattle.laws.specs.Rows.{_⇒_⁏_, _or_, _=?_, no, below, eq-of, ne-of}
 use Rattle.laws.specs.Table.{count}
+use Rattle.paper.specs.declared.Time.{Time}
+use Rattle.paper.specs.declared.Time.the-variants.{Known}
 use Rattle.style.specs.Shown as S
 use Rattle.desk.specs.declared.Shares.{Shares}
-use Rattle.desk.specs.Desk.{After, newestOf}
+use Rattle.desk.specs.Desk.{Own, After, newestOf}
 use Rattle.desk.specs.Effects.{unheard}
 use Rattle.memory.specs.Table.{mine}
 use Rattle.memory.specs.Relay.{Tables, placesOf, ownOf, sharesOf, stranger, lacking, ordered, Done, Released}
+use Rattle.memory.specs.Relay.{sender}
 use Rattle.good.specs.Good.{name, Good, no-stranger, no-lack, receive-good, give-up-good}
-use Rattle.good.specs.View.{View, view, ownIn, seenAfter, receives, givesUp, receive-others, give-up-others}
+use Rattle.good.specs.View.{View, view, ownIn, own-seen, seenAfter, receives, givesUp, receive-others, give-up-others}
 use Rattle.good.specs.View.{receive-is, receive-own, give-up-is, give-up-own, lookup-is}
 use Rattle.peace.specs.Run.{Call, receive, give-up, lookup, caller, Got, answered, released, shown, got, next, run, to, only}
 use Rattle.peace.specs.Run.{arrives, reaches, Few, Modest}
@@ -24,20 +27,20 @@ abbrev pub lone : View → Shares
 lone v = record { opens = v .opens; common = 0; desks = 1 }
 
 abbrev pub own-got : View → Call → Got
-own-got v (receive desk time rest out) =
-    answered (receives (lone v) v desk time rest out .answer) (receives (lone v) v desk time rest out .own .out)
+own-got v (receive desk t rest out) =
+    answered (receives (lone v) v desk t rest out .answer) (receives (lone v) v desk t rest out .own .out)
 own-got v (give-up desk time) = released (givesUp v time .answer)
 own-got v (lookup desk index book) = shown (S.shown book (v .store) (newestOf (v .marks)) index)
 
 -- its view after the call
 abbrev pub own-view : View → Call → View
-own-view v (receive desk time rest out) = seenAfter v time (receives (lone v) v desk time rest out .own)
-own-view v (give-up desk time) = seenAfter v time (givesUp v time .own)
+own-view v (receive desk t rest out) = seenAfter v t (receives (lone v) v desk t rest out .own)
+own-view v (give-up desk time) = seenAfter v (Known time) (givesUp v time .own)
 own-view v (lookup desk index book) = v
 
 -- the call reaches the test of the shares
 abbrev pub own-reaches : View → Call → Bool
-own-reaches v (receive desk time rest out) = arrives (ownIn v time out) desk time rest
+own-reaches v (receive desk t rest out) = arrives (ownIn v t out) desk t rest
 own-reaches v (give-up desk time) = false
 own-reaches v (lookup desk index book) = false
 
@@ -56,44 +59,45 @@ Frugal v (c ∷ cs) = Sparing v c × Frugal (own-view v c) cs
 
 -- ---- what one call does, of whatever desk it is
 pub next-good : (n : ℕ) (s : Tables) → Good n s → (c : Call) → Good n (next s c)
-next-good n s g (receive desk time rest out) = receive-good n s g (name desk time) _ out
+next-good n s g (receive desk t rest out) = receive-good n s g (sender desk t) _ out
 next-good n s g (give-up desk time) = give-up-good n s g (name _ time)
 next-good n s g (lookup desk index book) = g
 
 pub next-other : (n : ℕ) (s : Tables) → Good n s → (c : Call) (d : ℕ) → (caller c ≡ d → ⊥) → view n d (next s c) ≡ view n d s
-next-other n s g (receive desk time rest out) d q = receive-others n s g (name desk time) _ out d (λ e. q (sym e))
+next-other n s g (receive desk t rest out) d q = receive-others n s g (sender desk t) _ out d (λ e. q (sym e))
 next-other n s g (give-up desk time) d q = give-up-others n s g (name desk time) d (λ e. q (sym e))
 next-other n s g (lookup desk index book) d q = refl
 
 -- what the shares say of the others is not heard
-unheard-alone : (h : Shares) (v : View) (desk time : ℕ) (rest out : List ℕ) → h .opens ≡ v .opens → Sparing v (receive desk time rest out)
-    → receives h v desk time rest out ≡ receives (lone v) v desk time rest out
+unheard-alone : (h : Shares) (v : View) (desk : ℕ) (t : Time) (rest out : List ℕ) → h .opens ≡ v .opens
+    → Sparing v (receive desk t rest out) → receives h v desk t rest out ≡ receives (lone v) v desk t rest out
 unfolding ordered
-unheard-alone h v desk time rest out e k =
+unheard-alone h v desk t rest out e k =
     below _ _ _ _
-    (λ a. below _ _ _ _ (λ b. unheard h (lone v) (ownIn v time out) desk time rest e (λ c. subst Few (sym e) (k (sym (no _ _ b (sym c)))))))
+    (λ a. below _ _ _ _ (λ b. unheard h (lone v) (ownIn v t out) desk t rest e (λ c. subst Few (sym e) (k (sym (no _ _ b (sym c)))))))
 
 module _ (n : ℕ) (s : Tables) (g : Good n s) where
   pub reaches-own : (c : Call) → caller c < n → reaches s c ≡ own-reaches (view n (caller c) s) c
-  reaches-own (receive desk time rest out) h =
-      ap (λ (k : ℕ). stranger k desk or lacking k s ⇒ false ⁏ arrives (ownOf k s desk time out) desk time rest) (g .head)
+  reaches-own (receive desk t rest out) h =
+      ap (λ (k : ℕ). stranger k desk or lacking k s ⇒ false ⁏ arrives (ownOf k s desk t out) desk t rest) (g .head)
       ∙ sym (no _ false (sym (no _ true (no-stranger n desk s g h) (sym (no-lack n s g)))) refl)
+      ∙ ap (λ (o : Own). arrives o desk t rest) (own-seen n desk s t out)
   reaches-own (give-up desk time) h = refl
   reaches-own (lookup desk index book) h = refl
 
   next-own : (c : Call) → caller c < n → Sparing (view n (caller c) s) c → view n (caller c) (next s c) ≡ own-view (view n (caller c) s) c
-  next-own (receive desk time rest out) h k =
-      receive-own n s g desk h time rest out
-      ∙ ap (λ (a : After). seenAfter (view n desk s) time (a .own))
-      (unheard-alone (sharesOf n desk (placesOf n s)) (view n desk s) desk time rest out refl k)
+  next-own (receive desk t rest out) h k =
+      receive-own n s g desk h t rest out
+      ∙ ap (λ (a : After). seenAfter (view n desk s) t (a .own))
+      (unheard-alone (sharesOf n desk (placesOf n s)) (view n desk s) desk t rest out refl k)
   next-own (give-up desk time) h k = give-up-own n s g desk h time
   next-own (lookup desk index book) h k = refl
 
   got-own : (c : Call) → caller c < n → Sparing (view n (caller c) s) c → got s c ≡ own-got (view n (caller c) s) c
-  got-own (receive desk time rest out) h k =
-      ap (λ (r : Done). answered (r .answer) (r .out)) (receive-is n s g desk h time rest out)
+  got-own (receive desk t rest out) h k =
+      ap (λ (r : Done). answered (r .answer) (r .out)) (receive-is n s g desk h t rest out)
       ∙ ap (λ (a : After). answered (a .answer) (a .own .out))
-      (unheard-alone (sharesOf n desk (placesOf n s)) (view n desk s) desk time rest out refl k)
+      (unheard-alone (sharesOf n desk (placesOf n s)) (view n desk s) desk t rest out refl k)
   got-own (give-up desk time) h k = ap (λ (r : Released). released (r .answer)) (give-up-is n s g desk h time)
   got-own (lookup desk index book) h k = ap shown (lookup-is n s g desk h index book)
 

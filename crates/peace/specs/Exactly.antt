@@ -14,6 +14,8 @@ use Rattle.paper.specs.declared.Refusal.{Refusal}
 use Rattle.paper.specs.declared.Refusal.the-variants as R
 use Rattle.paper.specs.declared.Outcome.{Outcome}
 use Rattle.paper.specs.declared.Outcome.the-variants as O
+use Rattle.paper.specs.declared.Time.{Time}
+use Rattle.paper.specs.declared.Time.the-variants.{Known, Unknown}
 use Rattle.unit.specs.declared.Part as P
 use Rattle.unit.specs.declared.Unit.{Unit}
 use Rattle.unit.specs.declared.Unit.the-variants.{End, Skipped, Refused, Whole, Part, Description}
@@ -24,7 +26,8 @@ use Rattle.desk.specs.declared.Shares.{Shares}
 use Rattle.desk.specs.Desk.{Own, After, refuse, six, usedUp, completed, joining, taken, received}
 use Rattle.desk.specs.Effects.{asksPart, asks}
 use Rattle.memory.specs.Relay.{Tables, desksOf, placesOf, ownOf, sharesOf, storedShares, ordered, receivedAmong, receivedAt}
-use Rattle.good.specs.Good.{name, Good, shares-are, below}
+use Rattle.memory.specs.Relay.{sender}
+use Rattle.good.specs.Good.{Good, shares-are, below}
 use Rattle.good.specs.Fair.{Passed}
 use Rattle.good.specs.Served.{Serves, let-through}
 use Rattle.peace.specs.Run.{receive, reaches}
@@ -56,7 +59,8 @@ unfolding _⇒_⁏_
 past true d e = absurd (true≢false (sym e))
 past false d e = (refl, e)
 
-module _ (h : Shares) (s : Own) (time used next : ℕ) (q : Place) (x : P.Part) (d : List ℕ) (k : asksPart s time q x d ≡ true) where
+module _ (h : Shares) (s : Own) (time used : ℕ) (next : Time) (q : Place) (x : P.Part) (d : List ℕ)
+    (k : asksPart s time q x d ≡ true) where
   -- it is a new one, and all that is left of the order is 8, 9, 10
   asked : (s .place .used ≡ false)
       × ((six (s .place) h ⇒ refuse s used next R.Six ⁏ usedUp (s .place) h ⇒ refuse s used next R.Common ⁏ completed s time used next (kept q x d))
@@ -81,55 +85,59 @@ module _ (h : Shares) (s : Own) (time used next : ℕ) (q : Place) (x : P.Part) 
       ∙ asked .1)
 
 -- ---- a call, of any tables, by the numbers in their head; n is the first of them
-module _ (s : Tables) (desk time : ℕ) (rest out : List ℕ) where
+module _ (s : Tables) (desk : ℕ) (t : Time) (rest out : List ℕ) where
   abbrev n : ℕ
   n = desksOf (s .marks)
+
+  abbrev its : Own
+  its = ownOf n s desk t out
 
   abbrev pub shares : Shares
   shares = storedShares n desk (s .marks)
 
   abbrev pub Asking : Type 0
-  Asking = reaches s (receive desk time rest out) ≡ true
+  Asking = reaches s (receive desk t rest out) ≡ true
 
   abbrev pub outcome : Outcome
-  outcome = receivedAt s (name desk time) rest out .answer .outcome
+  outcome = receivedAt s (sender desk t) rest out .answer .outcome
 
   -- what a part is refused by, where it reaches the test, the call is
   lifted : (r : Refusal) → Asking
-      → ((used next : ℕ) (q : Place) (x : P.Part) (d : List ℕ) → asksPart (ownOf n s desk time out) time q x d ≡ true
-      → joining shares (ownOf n s desk time out) time used next q x d ≡ refuse (ownOf n s desk time out) used next r)
+      → ((time used : ℕ) (next : Time) (q : Place) (x : P.Part) (d : List ℕ) → asksPart its time q x d ≡ true
+      → joining shares its time used next q x d ≡ refuse its used next r)
       → outcome ≡ O.Refused r
   unfolding receivedAmong ordered received
   lifted r k part =
       let a = past _ _ k in
       let b = past _ _ (a .1) in
-      ap (λ (x : After). x .answer .outcome) (sym (no _ _ (a .0) (no _ _ (b .0) refl))) ∙ go (readOf rest .unit) (b .1)
+      ap (λ (x : After). x .answer .outcome) (sym (no _ _ (a .0) (no _ _ (b .0) refl))) ∙ go (readOf rest .unit) t (b .1)
     where
-      go : (x : Unit) → asks (ownOf n s desk time out) desk time rest x ≡ true
-          → taken shares (ownOf n s desk time out) desk time (readOf rest .used) rest x .answer .outcome ≡ O.Refused r
-      go End e = absurd (true≢false (sym e))
-      go (Skipped t) e = absurd (true≢false (sym e))
-      go (Refused w) e = absurd (true≢false (sym e))
-      go (Whole w) e = absurd (true≢false (sym e))
-      go (Part x) e = ap (λ (x : After). x .answer .outcome) (part (readOf rest .used) _ _ x (dataOf rest (Part x)) e)
-      go (Description w) e = absurd (true≢false (sym e))
+      go : (x : Unit) (u : Time) → asks its desk u rest x ≡ true
+          → taken shares its desk u (readOf rest .used) rest x .answer .outcome ≡ O.Refused r
+      go End u e = absurd (true≢false (sym e))
+      go (Skipped y) u e = absurd (true≢false (sym e))
+      go (Refused w) u e = absurd (true≢false (sym e))
+      go (Whole w) u e = absurd (true≢false (sym e))
+      go (Part x) (Known time) e = ap (λ (x : After). x .answer .outcome) (part time (readOf rest .used) _ _ x (dataOf rest (Part x)) e)
+      go (Part x) Unknown e = absurd (true≢false (sym e))
+      go (Description w) u e = absurd (true≢false (sym e))
 
   neither : (Asking → Passed shares) → Serves outcome
-  neither k = let-through s (name desk time) rest out (λ a b c. k (sym (no _ _ a (no _ _ b (sym c)))))
+  neither k = let-through s (sender desk t) rest out (λ a b c. k (sym (no _ _ a (no _ _ b (sym c)))))
 
   -- whoever is answered 8 or 9 reached the test and was not let through
   by-shares : (r : Refusal) → outcome ≡ O.Refused r → ((numberOf r ≢ 8) × (numberOf r ≢ 9) → ⊥) → Asking × (Full shares ⊎ Spent shares)
-  by-shares r e k = go (reaches s (receive desk time rest out)) refl
+  by-shares r e k = go (reaches s (receive desk t rest out)) refl
     where
-      go : (b : Bool) → reaches s (receive desk time rest out) ≡ b → Asking × (Full shares ⊎ Spent shares)
+      go : (b : Bool) → reaches s (receive desk t rest out) ≡ b → Asking × (Full shares ⊎ Spent shares)
       go false l = absurd (k (neither (λ a. absurd (true≢false (sym a ∙ l))) r e))
       go true l = (l, ⊎-elim inl (λ w. ⊎-elim inr (λ p. absurd (k (neither (λ a. p) r e))) w) (sorted shares))
 
   is-eight : Asking → Full shares → outcome ≡ O.Refused R.Six
-  is-eight k f = lifted R.Six k (λ used next q x d a. part-eight shares _ time used next q x d a f)
+  is-eight k f = lifted R.Six k (λ time used next q x d a. part-eight shares _ time used next q x d a f)
 
   is-nine : Asking → Spent shares → outcome ≡ O.Refused R.Common
-  is-nine k f = lifted R.Common k (λ used next q x d a. part-nine shares _ time used next q x d a f)
+  is-nine k f = lifted R.Common k (λ time used next q x d a. part-nine shares _ time used next q x d a f)
 
   not-both : {A : Type 0} → outcome ≡ O.Refused R.Six → outcome ≡ O.Refused R.Common → A
   not-both e f =
@@ -150,24 +158,24 @@ module _ (s : Tables) (desk time : ℕ) (rest out : List ℕ) where
   )
 
 -- ---- in good tables, by what a walk over the places finds
-module _ (n : ℕ) (s : Tables) (g : Good n s) (desk time : ℕ) (rest out : List ℕ) where
+module _ (n : ℕ) (s : Tables) (g : Good n s) (desk : ℕ) (t : Time) (rest out : List ℕ) where
   -- a call that reaches the test is one of a desk below n
-  by-walk : Asking s desk time rest out → shares s desk time rest out ≡ sharesOf n desk (placesOf n s)
+  by-walk : Asking s desk t rest out → shares s desk t rest out ≡ sharesOf n desk (placesOf n s)
   by-walk k =
       let h = below (desksOf (s .marks)) desk (or-none _ _ (past _ _ k .0) .0) in
       ap (λ (m : ℕ). storedShares m desk (s .marks)) (g .head) ∙ shares-are n desk s g (subst (λ (m : ℕ). desk < m) (g .head) h)
 
-  walked : (A : Type 0) (P : Shares → Type 0) → Exactly A (Asking s desk time rest out × P (shares s desk time rest out))
-      → Exactly A (Asking s desk time rest out × P (sharesOf n desk (placesOf n s)))
+  walked : (A : Type 0) (P : Shares → Type 0) → Exactly A (Asking s desk t rest out × P (shares s desk t rest out))
+      → Exactly A (Asking s desk t rest out × P (sharesOf n desk (placesOf n s)))
   walked A P e = (
     λ a. let w = e .0 a in (w .0, subst P (by-walk (w .0)) (w .1)),
     λ w. e .1 (w .0, subst P (sym (by-walk (w .0))) (w .1)),
   )
 
-  pub eight-walked : Exactly (outcome s desk time rest out ≡ O.Refused R.Six)
-      (Asking s desk time rest out × Full (sharesOf n desk (placesOf n s)))
-  eight-walked = walked _ Full (eight s desk time rest out)
+  pub eight-walked : Exactly (outcome s desk t rest out ≡ O.Refused R.Six)
+      (Asking s desk t rest out × Full (sharesOf n desk (placesOf n s)))
+  eight-walked = walked _ Full (eight s desk t rest out)
 
-  pub nine-walked : Exactly (outcome s desk time rest out ≡ O.Refused R.Common)
-      (Asking s desk time rest out × Spent (sharesOf n desk (placesOf n s)))
-  nine-walked = walked _ Spent (nine s desk time rest out)
+  pub nine-walked : Exactly (outcome s desk t rest out ≡ O.Refused R.Common)
+      (Asking s desk t rest out × Spent (sharesOf n desk (placesOf n s)))
+  nine-walked = walked _ Spent (nine s desk t rest out)

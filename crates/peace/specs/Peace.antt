@@ -8,7 +8,7 @@ use Rattle.memory.specs.declared.Started.the-variants.{Ready}
 use Rattle.memory.specs.Relay.{Tables, setUp}
 use Rattle.good.specs.Good.{Good, set-up-good}
 use Rattle.good.specs.View.{View, view}
-use Rattle.good.specs.Fresh.{set-up-view}
+use Rattle.good.specs.Fresh.{freshView, set-up-view}
 use Rattle.peace.specs.Run.{Call, caller, run, to, only, Modest}
 use Rattle.peace.specs.Alone.{alone, Frugal, modest-frugal, frugal-modest, as-frugal}
 
@@ -45,3 +45,18 @@ only-only d (c ∷ cs) = go (caller c =? d) refl (only-only d cs)
 pub by-itself : (n d : ℕ) → d < n → (s : Tables) → setUp n s .answer ≡ Ready → (xs : List Call) → Modest d (setUp n s .tables) xs
     → (to d (run (setUp n s .tables) xs) ≡ to d (run (setUp n s .tables) (only d xs))) × Modest d (setUp n s .tables) (only d xs)
 by-itself n d h s a xs = two-runs n d h s s a a xs (only d xs) (sym (only-only d xs))
+
+-- Among all others, from set-up: a desk that is frugal with fresh things gets what it gets alone with them, and is modest.
+module _ (n d : ℕ) (h : d < n) (s : Tables) (e : setUp n s .answer ≡ Ready) (xs ys : List Call) (q : only d xs ≡ ys)
+    (f : Frugal freshView ys) where
+  is-fresh : view n d (setUp n s .tables) ≡ freshView
+  is-fresh = set-up-view n d s e h
+
+  frugal : Frugal (view n d (setUp n s .tables)) (only d xs)
+  frugal = subst (λ (w : View). Frugal w (only d xs)) (sym is-fresh) (subst (Frugal freshView) (sym q) f)
+
+  pub as-fresh : to d (run (setUp n s .tables) xs) ≡ alone freshView ys
+  as-fresh = as-frugal n d h xs (setUp n s .tables) (set-up-good n s e) frugal ∙ ap₂ alone is-fresh q
+
+  pub fresh-modest : Modest d (setUp n s .tables) xs
+  fresh-modest = frugal-modest n d h xs (setUp n s .tables) (set-up-good n s e) frugal

@@ -6,6 +6,7 @@ use mathlib.Core.List.{List, [], _∷_}
 use Rattle.memory.specs.declared.Started.the-variants.{Ready}
 use Rattle.memory.specs.Relay.{Tables, placesOf, setUp, lookedUp}
 use Rattle.good.specs.Counts.{Stored}
+use Rattle.memory.specs.Relay.{sender}
 use Rattle.good.specs.Good.{name, Good, set-up-good}
 use Rattle.good.specs.Walked.{walkedAt, walkedGivenUp, Alike, itself, lookup-alike, receive-alike, give-up-alike}
 use Rattle.peace.specs.Run.{Call, receive, give-up, lookup, caller, Got, answered, released, shown, got, next, run}
@@ -14,13 +15,13 @@ use Rattle.peace.specs.Always.{tablesAfter, always-good}
 
 -- ---- what a call gets there, the tables after it, and a run
 abbrev pub got-walked : Tables → Call → Got
-got-walked s (receive desk time rest out) =
-    answered (walkedAt s (name desk time) rest out .answer) (walkedAt s (name desk time) rest out .out)
+got-walked s (receive desk t rest out) =
+    answered (walkedAt s (sender desk t) rest out .answer) (walkedAt s (sender desk t) rest out .out)
 got-walked s (give-up desk time) = released (walkedGivenUp s (name desk time) .answer)
 got-walked s (lookup desk index book) = shown (lookedUp (s .marks) (s .stores) desk index book)
 
 abbrev pub next-walked : Tables → Call → Tables
-next-walked s (receive desk time rest out) = walkedAt s (name desk time) rest out .tables
+next-walked s (receive desk t rest out) = walkedAt s (sender desk t) rest out .tables
 next-walked s (give-up desk time) = walkedGivenUp s (name desk time) .tables
 next-walked s (lookup desk index book) = s
 
@@ -31,13 +32,13 @@ run-walked s (c ∷ cs) = (caller c, got-walked s c) ∷ run-walked (next-walked
 -- ---- one call, and all of them
 module _ (n : ℕ) (s r : Tables) (g : Good n s) (a : Alike s r) where
   got-alike : (c : Call) → got s c ≡ got-walked r c
-  got-alike (receive desk time rest out) =
-      let w = receive-alike n s r g a (name desk time) rest out in ap₂ answered (w .answer) (w .out)
+  got-alike (receive desk t rest out) =
+      let w = receive-alike n s r g a (sender desk t) rest out in ap₂ answered (w .answer) (w .out)
   got-alike (give-up desk time) = ap released (give-up-alike n s r g a (name desk time) .answer)
   got-alike (lookup desk index book) = ap shown (lookup-alike s r a desk index book)
 
   next-alike : (c : Call) → Alike (next s c) (next-walked r c)
-  next-alike (receive desk time rest out) = receive-alike n s r g a (name desk time) rest out .tables
+  next-alike (receive desk t rest out) = receive-alike n s r g a (sender desk t) rest out .tables
   next-alike (give-up desk time) = give-up-alike n s r g a (name desk time) .tables
   next-alike (lookup desk index book) = a
 

@@ -6,6 +6,8 @@ use hall::Hall;
 use paper::Facts;
 use paper::Name;
 use paper::Outcome;
+use paper::Sender;
+use paper::Time;
 use style::Checked;
 use writer::Written;
 
@@ -31,27 +33,36 @@ fn hand_out(h: Hall, outcome: Outcome) -> Hall {
     h
 }
 
+// A running time; `?` where it is unknown.
+fn print_time(t: Time) {
+    match t {
+        Time::Known(time) => print::number(time as usize),
+        Time::Unknown => print::text(b" ?"),
+    }
+}
+
 // The next running time, what the listing says of the payload's first unit, and what is handed out.
-fn receive(h: Hall, desk: usize, time: u32, rest: &[u8]) -> Hall {
-    let r = hall::receive(h, Name { desk, time }, rest);
+fn receive(h: Hall, desk: usize, time: Time, rest: &[u8]) -> Hall {
+    let r = hall::receive(h, Sender { desk, time }, rest);
     let answer = r.answer;
     let mut line = [0u8; 64];
     let end = lines::put_line(&mut line, 0, 0, time, answer);
-    print::number(answer.next as usize);
+    let next = answer.next;
+    print_time(next);
     print::blank();
     print::text(octets::cut(&line, 0, octets::less(end, 1)));
     let outcome = answer.outcome;
     hand_out(r.hall, outcome)
 }
 
-// `receive DESK TIME BYTES`.
+// `receive DESK TIME BYTES`; TIME is `?` where it is unknown.
 fn play_receive(h: Hall, line: &[u8]) -> Hall {
     let mut rest = [0u8; PAYLOAD_MOST];
     let n = script::bytes(line, 3, &mut rest);
     receive(
         h,
         script::number(line, 1),
-        script::time(line, 2),
+        script::running(line, 2),
         octets::cut(&rest, 0, n),
     )
 }
@@ -65,7 +76,7 @@ fn send(h: Hall, line: &[u8], text: &[u8]) -> Hall {
         Written::Payload { len, count: _ } => receive(
             h,
             script::number(line, 1),
-            script::time(line, 2),
+            script::running(line, 2),
             octets::cut(&out, 0, len),
         ),
         Written::Refused(_) => h,

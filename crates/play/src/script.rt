@@ -1,6 +1,6 @@
 // A script: a line a call, its words with blanks between them, numbers in decimal, bytes in hexadecimal. A line whose first word is `#`
 // is a remark.
-
+use paper::Time;
 ghost use Prim.Native.Nat.{_<_};
 
 // The number that the word `most` stands for.
@@ -127,6 +127,14 @@ pub(crate) fn number(s: &[u8], k: usize) -> usize {
 // Word k as a time.
 pub(crate) fn time(s: &[u8], k: usize) -> u32 {
     (number(s, k) % 4294967296) as u32
+}
+
+// Word k as a running time; `?` is an unknown one.
+pub(crate) fn running(s: &[u8], k: usize) -> Time {
+    if octets::same(word(s, k), b"?") {
+        return Time::Unknown;
+    }
+    Time::Known(time(s, k))
 }
 
 fn hex_digit(c: usize) -> usize

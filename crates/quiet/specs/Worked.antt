@@ -12,6 +12,7 @@ use lib.Seq.{sets}
 use Rattle.laws.specs.Rows.{_⇒_⁏_, _<?_, _=?_}
 use Rattle.paper.specs.Limits.{sampleMost}
 use Rattle.paper.specs.declared.Refusal.the-variants as R
+use Rattle.paper.specs.declared.Time.the-variants.{Known}
 use Rattle.paper.specs.declared.Outcome.{Outcome}
 use Rattle.paper.specs.declared.Outcome.the-variants as O
 use Rattle.text.specs.Chart.{chart, within, follows, charted}
@@ -23,17 +24,18 @@ use Rattle.sample.specs.Place.{piecesOf}
 use Rattle.finished.specs.Times.{among, markedRow, markedUsed}
 use Rattle.desk.specs.declared.GivenUp.the-variants.{Freed}
 use Rattle.desk.specs.declared.GivenUp.the-variants as G
-use Rattle.desk.specs.Desk.{says, facts, laterPart, sampleOf, conflicts, six, usedUp, completed, joining, received, givenUp}
+use Rattle.desk.specs.Desk.{says, facts, later, laterPart, sampleOf, conflicts, six, usedUp, completed, joining, received, givenUp}
 use Rattle.desk.specs.Effects.{asksPart}
 use Rattle.memory.specs.declared.Started.the-variants.{Ready}
 use Rattle.memory.specs.Relay.{Tables, desksOf, standsAt, stepped, commonStepped, improper, stranger, short, ownMarks, setUp}
 use Rattle.memory.specs.Relay.{ordered, Done, receivedAmong, yielded, Released, givenUpAmong}
-use Rattle.good.specs.Good.{name, set-up-good}
+use Rattle.memory.specs.Relay.{sender}
+use Rattle.good.specs.Good.{name}
 use Rattle.good.specs.Lifted.{no-relay-receive, no-relay-give-up, no-relay-lookup}
-use Rattle.good.specs.View.{View, view}
-use Rattle.good.specs.Fresh.{freshView, set-up-view, Exact, exactTables, set-up-exact}
+use Rattle.good.specs.Fresh.{freshView, Exact, exactTables, set-up-exact}
 use Rattle.peace.specs.Run.{Call, receive, give-up, lookup, caller, Got, answered, released, shown, got, next, run, to, only}
-use Rattle.peace.specs.Alone.{alone, Frugal, as-frugal}
+use Rattle.peace.specs.Alone.{alone, Frugal}
+use Rattle.peace.specs.Peace.{as-fresh}
 
 -- ---- cases 7 and 8 of document 01: the two parts of one sample, and the sample
 abbrev first : List ℕ
@@ -51,18 +53,19 @@ blank = replicate sampleMost 0
 
 -- a desk opens its sample of a time, and what it is told
 abbrev opens : (desk time : ℕ) → Call
-opens desk time = receive desk time first blank
+opens desk time = receive desk (Known time) first blank
 
 abbrev hears : (time : ℕ) → Outcome → Got
-hears time x = answered (says 12 time x) blank
+hears time x = answered (says 12 (Known time) x) blank
 
 -- ---- a quiet desk opens two, completes one and gives the other up
 abbrev quiet : (desk : ℕ) → List Call
-quiet desk = opens desk 1 ∷ opens desk 2 ∷ receive desk 1 second blank ∷ give-up desk 2 ∷ []
+quiet desk = opens desk 1 ∷ opens desk 2 ∷ receive desk (Known 1) second blank ∷ give-up desk 2 ∷ []
 
 abbrev quiet-gets : List Got
 quiet-gets =
-    hears 1 (O.Kept 1) ∷ hears 2 (O.Kept 1) ∷ answered (says 19 101 (O.Joined (facts 1 0 128 100 2 14))) (sets blank 0 sample) ∷ released Freed ∷ []
+    hears 1 (O.Kept 1) ∷ hears 2 (O.Kept 1)
+    ∷ answered (says 19 (Known 101) (O.Joined (facts 1 0 128 100 2 14))) (sets blank 0 sample) ∷ released Freed ∷ []
 
 -- a greedy one opens all that it can: six, and its seventh gets 8
 abbrev greedy : List Call
@@ -75,7 +78,7 @@ greedy-gets =
 
 -- both at one relay, where the greedy one gives one up and takes another
 abbrev both : List Call
-both = greedy ++ (opens 1 1 ∷ opens 1 2 ∷ give-up 0 1 ∷ opens 0 8 ∷ receive 1 1 second blank ∷ opens 0 9 ∷ give-up 1 2 ∷ [])
+both = greedy ++ (opens 1 1 ∷ opens 1 2 ∷ give-up 0 1 ∷ opens 0 8 ∷ receive 1 (Known 1) second blank ∷ opens 0 9 ∷ give-up 1 2 ∷ [])
 
 -- a desk that is not modest opens a third
 abbrev three : List Call
@@ -94,7 +97,7 @@ Crowded s =
 -- alone, the quiet desk has none open at its first call and one at its second, and its others ask for no place
 computed : Peaceful (exactTables 2) × (Crowded (exactTables 2) × (Frugal freshView (quiet 7) × (alone freshView (quiet 7) ≡ quiet-gets)))
 unfolding _⇒_⁏_ _<?_ _=?_ readOf broken judged textJudged illText fieldsOf least badPart bare outside has agrees stands repeats oversize
-    toldOf telling laid kept missing piecesIn piecesOf among laterPart sampleOf conflicts six usedUp completed joining received
+    toldOf telling laid kept missing piecesIn piecesOf among later laterPart sampleOf conflicts six usedUp completed joining received
     standsAt stepped commonStepped improper stranger short ownMarks ordered receivedAmong ones markedRow markedUsed givenUp yielded
     givenUpAmong J.laters J.going J.ordered J.sound flatten asksPart wellFormed wellWithin character chart within follows charted
 computed =
@@ -116,24 +119,19 @@ case-10 s x = subst Crowded (sym (set-up-exact 2 s two-is-proper x)) (computed .
 -- ---- in any lent memory, among seven others: whatever they do, desk 7 gets this
 pub among-seven : (s : Tables) → setUp 8 s .answer ≡ Ready → (xs : List Call) → only 7 xs ≡ quiet 7
     → to 7 (run (setUp 8 s .tables) xs) ≡ quiet-gets
-among-seven s e xs q =
-    let h : 7 < 8 = omega arith in
-    let v : view 8 7 (setUp 8 s .tables) ≡ freshView = set-up-view 8 7 s e h in
-    let f : Frugal (view 8 7 (setUp 8 s .tables)) (only 7 xs) =
-    subst (λ (w : View). Frugal w (only 7 xs)) (sym v) (subst (Frugal freshView) (sym q) (computed .1 .1 .0)) in
-    as-frugal 8 7 h xs (setUp 8 s .tables) (set-up-good 8 s e) f ∙ ap₂ alone v q ∙ computed .1 .1 .1
+among-seven s e xs q = as-fresh 8 7 (omega arith) s e xs (quiet 7) q (computed .1 .1 .0) ∙ computed .1 .1 .1
 
 -- ---- in memory whose head does not hold 1 to 8: whatever is called, each call is refused by 1, and a lookup shows nothing
 abbrev denied : Call → Got
-denied (receive desk time rest out) = answered (says 0 time (O.Refused R.Desk)) out
+denied (receive desk t rest out) = answered (says 0 t (O.Refused R.Desk)) out
 denied (give-up desk time) = released (G.Refused R.Desk)
 denied (lookup desk index book) = shown []
 
 module _ (s : Tables) (e : improper (desksOf (s .marks)) ≡ true) where
   -- and leaves the tables as they stood
   denies : (c : Call) → (got s c ≡ denied c) × (next s c ≡ s)
-  denies (receive desk time rest out) =
-      let q = no-relay-receive s e (name desk time) rest out in
+  denies (receive desk t rest out) =
+      let q = no-relay-receive s e (sender desk t) rest out in
       (ap (λ (r : Done). answered (r .answer) (r .out)) q, ap (λ (r : Done). r .tables) q)
   denies (give-up desk time) =
       let q = no-relay-give-up s e (name desk time) in

@@ -18,7 +18,7 @@ use Rattle.laws.specs.Table.{seek}
 use Rattle.sample.proofs.Place as P
 use Rattle.memory.specs.Table.{vacant, isAt}
 use Rattle.memory.specs.Relay.{desksOf}
-use Rattle.looks.specs.Looks.{reachOf, reachFor}
+use Rattle.looks.specs.Looks.{reachAt, reachFor}
 use Rattle.table.specs.Table.{holds}
 use Rattle.finds.proofs.len as len
 use Rattle.finds.proofs.find as find
@@ -28,9 +28,10 @@ use Rattle.looks.proofs.reach as reach
 use Rattle.looks.proofs.reach_for as reach-for
 use Rattle.looks.proofs.asked as asked
 use Rattle.looks.proofs.spot as spot
+use Rattle.looks.proofs.sender_of as sender-of
 use Rattle.looks.proofs.freed_at as freed-at
 use Rattle.asks.proofs.arrived as arrived
-use Rattle.relay.proofs.Values.{name, given-up, arrival, reading}
+use Rattle.relay.proofs.Values.{name, sender, given-up, arrival, reading}
 
 module _ {M : Type 1} (𝓤 : URA M) (H : Heap 𝓤) (A : Atoms 𝓤) (mem : Memory → SProp 𝓤) (run : Routine → Fun 𝓤) where
   -- ---- of the table
@@ -52,7 +53,7 @@ module _ {M : Type 1} (𝓤 : URA M) (H : Heap 𝓤) (A : Atoms 𝓤) (mem : Mem
   Find = record {
     before = [];
     of = P.the-row;
-    after = number w64 ∷ name ∷ [];
+    after = number w64 ∷ sender ∷ [];
     result = number w64;
     clauses = find.clauses 𝓤 H A mem run;
     asks = λ bs ys cs. Unit {0};
@@ -66,7 +67,7 @@ module _ {M : Type 1} (𝓤 : URA M) (H : Heap 𝓤) (A : Atoms 𝓤) (mem : Mem
   IsOpen = record {
     before = [];
     of = P.the-row;
-    after = number w64 ∷ name ∷ [];
+    after = number w64 ∷ sender ∷ [];
     result = truth;
     clauses = is-open.clauses 𝓤 H A mem run;
     asks = λ bs ys cs. Unit {0};
@@ -95,11 +96,11 @@ module _ {M : Type 1} (𝓤 : URA M) (H : Heap 𝓤) (A : Atoms 𝓤) (mem : Mem
   Reach = record {
     before = [];
     of = u32;
-    after = name ∷ number w64 ∷ [];
+    after = sender ∷ number w64 ∷ [];
     result = number w64;
     clauses = reach.clauses 𝓤 H A mem run;
     asks = λ bs ys cs. Unit {0};
-    answer = λ bs ys cs. reachOf (desksOf ys) (cs .1 .0);
+    answer = λ bs ys cs. reachAt (desksOf ys) (cs .0 .time) (cs .1 .0);
     bind = λ κs bs p cs. tt;
     brings = λ κs bs p cs _. id⊢ 𝓤 _;
     says = λ κs bs p cs r ws. id⊢ 𝓤 _;
@@ -109,11 +110,11 @@ module _ {M : Type 1} (𝓤 : URA M) (H : Heap 𝓤) (A : Atoms 𝓤) (mem : Mem
   ReachFor = record {
     before = [];
     of = u32;
-    after = name ∷ number w64 ∷ reading ∷ [];
+    after = sender ∷ number w64 ∷ reading ∷ [];
     result = number w64;
     clauses = reach-for.clauses 𝓤 H A mem run;
     asks = λ bs ys cs. Unit {0};
-    answer = λ bs ys cs. reachFor (desksOf ys) (cs .1 .0) (cs .1 .1 .0 .unit);
+    answer = λ bs ys cs. reachFor (desksOf ys) (cs .0 .time) (cs .1 .0) (cs .1 .1 .0 .unit);
     bind = λ κs bs p cs. tt;
     brings = λ κs bs p cs _. id⊢ 𝓤 _;
     says = λ κs bs p cs r ws. id⊢ 𝓤 _;
@@ -145,6 +146,15 @@ module _ {M : Type 1} (𝓤 : URA M) (H : Heap 𝓤) (A : Atoms 𝓤) (mem : Mem
     params = value (number w64) ∷ value (number w64) ∷ value (number w64) ∷ value (number w64) ∷ value arrival ∷ [];
     result = number w64;
     clauses = spot.clauses 𝓤 H A mem run;
+  }
+
+  abbrev pub SenderOf : Lending 𝓤
+  SenderOf = record {
+    lifetimes = 0;
+    bounds = [];
+    params = value name ∷ [];
+    result = sender;
+    clauses = sender-of.clauses 𝓤 H A mem run;
   }
 
   abbrev pub FreedAt : Lending 𝓤

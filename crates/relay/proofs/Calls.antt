@@ -1,6 +1,6 @@
 -- What the walks of this crate call alike, beside the table's functions: for each callee its contract, and that the machine's table of
 -- calls knows it.
---     Reach, ReachFor, Asked, SpotOf, Arrived, FreedAt       the contracts.        KnowsReach ..      a table of calls knows it
+--     Reach, ReachFor, Asked, SpotOf, Arrived, SenderOf, FreedAt       the contracts.        KnowsReach ..      a table of calls knows it
 --     knows-reach ..                         the machine's table of calls does
 -- Assumes nothing.
 use mathlib.Core.Path.{_≡_}
@@ -36,6 +36,10 @@ use Rattle.asks.proofs.arrived as arrived
 use Rattle.asks.proofs.arrived.Symbol as arrived-def
 use Rattle.asks.proofs.arrived.Symbol.{name as #arrived}
 use Rattle.asks.proofs.arrived.Met as arrived-thm
+use Rattle.looks.proofs.sender_of as sender-of
+use Rattle.looks.proofs.sender_of.Symbol as sender-of-def
+use Rattle.looks.proofs.sender_of.Symbol.{name as #sender-of}
+use Rattle.looks.proofs.sender_of.Met as sender-of-thm
 use Rattle.looks.proofs.freed_at as freed-at
 use Rattle.looks.proofs.freed_at.Symbol as freed-at-def
 use Rattle.looks.proofs.freed_at.Symbol.{name as #freed-at}
@@ -73,6 +77,12 @@ module _ {M : Type 1} (𝓤 : URA M) (H : Heap 𝓤) (A : Atoms 𝓤) (mem : Mem
   abbrev pub KnowsArrived : Calls 𝓤 H → Type 1
   KnowsArrived C = Triple 𝓤 (C #arrived) Arrived
 
+  abbrev pub SenderOf : Contract 𝓤
+  SenderOf = tripleOf 𝓤 H A sender-of.signature (sender-of.spec 𝓤 H A mem run)
+
+  abbrev pub KnowsSenderOf : Calls 𝓤 H → Type 1
+  KnowsSenderOf C = Triple 𝓤 (C #sender-of) SenderOf
+
   abbrev pub FreedAt : Contract 𝓤
   FreedAt = tripleOf 𝓤 H A freed-at.signature (freed-at.spec 𝓤 H A mem run)
 
@@ -95,6 +105,10 @@ module _ {M : Type 1} (𝓤 : URA M) (H : Heap 𝓤) (𝓜 : Model 𝓤 H) (𝓖
 
   pub knows-arrived : γ #arrived ≡ arrived-def.routine → KnowsArrived 𝓤 H (𝓖 .A) (𝓜 .mem) (𝓡 .run) (tables 𝓤 H 𝓜 𝓡 γ .C)
   knows-arrived p = cited 𝓤 H (Arrived 𝓤 H (𝓖 .A) (𝓜 .mem) (𝓡 .run)) 𝓜 𝓡 γ #arrived arrived-def.routine p (arrived-thm.met 𝓤 H 𝓜 𝓖 𝓡)
+
+  pub knows-sender-of : γ #sender-of ≡ sender-of-def.routine → KnowsSenderOf 𝓤 H (𝓖 .A) (𝓜 .mem) (𝓡 .run) (tables 𝓤 H 𝓜 𝓡 γ .C)
+  knows-sender-of p =
+      cited 𝓤 H (SenderOf 𝓤 H (𝓖 .A) (𝓜 .mem) (𝓡 .run)) 𝓜 𝓡 γ #sender-of sender-of-def.routine p (sender-of-thm.met 𝓤 H 𝓜 𝓖 𝓡)
 
   pub knows-freed-at : γ #freed-at ≡ freed-at-def.routine → KnowsFreedAt 𝓤 H (𝓖 .A) (𝓜 .mem) (𝓡 .run) (tables 𝓤 H 𝓜 𝓡 γ .C)
   knows-freed-at p = cited 𝓤 H (FreedAt 𝓤 H (𝓖 .A) (𝓜 .mem) (𝓡 .run)) 𝓜 𝓡 γ #freed-at freed-at-def.routine p (freed-at-thm.met 𝓤 H 𝓜 𝓖 𝓡)

@@ -5,6 +5,8 @@ use Rattle.sample.proofs.Place as P
 use Rattle.sample.proofs.Place.Laws as P′
 use Rattle.paper.proofs.Name as Q
 use Rattle.paper.proofs.Name.Laws as Q′
+use Rattle.paper.proofs.Sender as E
+use Rattle.paper.proofs.Sender.Laws as E′
 use Rattle.paper.proofs.Answer as N
 use Rattle.paper.proofs.Answer.Laws as N′
 use Rattle.memory.proofs.Started as S
@@ -25,6 +27,9 @@ place = struct P.the-type P′.the-laws P′.the-plain (λ x w. refl)
 
 abbrev pub name : Data
 name = struct Q.the-type Q′.the-laws Q′.the-plain (λ x w. refl)
+
+abbrev pub sender : Data
+sender = struct E.the-type E′.the-laws E′.the-plain (λ x w. refl)
 
 abbrev pub answer : Data
 answer = struct N.the-type N′.the-laws N′.the-plain (λ x w. refl)

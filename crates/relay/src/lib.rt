@@ -5,6 +5,7 @@ use desk::GivenUp;
 use memory::Started;
 use paper::Answer;
 use paper::Name;
+use paper::Sender;
 use sample::Place;
 use unit::Reading;
 ghost use mathlib.Core.Path.{_≡_};
@@ -47,7 +48,7 @@ fn join_in(
     rows: &mut [u32],
     marks: &mut [u32],
     store_len: usize,
-    who: Name,
+    who: Sender,
     x: Arrival,
     rest: &[u8],
     out: &mut [u8],
@@ -85,7 +86,7 @@ fn join_at(
     rows: &mut [u32],
     marks: &mut [u32],
     store_len: usize,
-    who: Name,
+    who: Sender,
     x: Arrival,
     rest: &[u8],
     out: &mut [u8],
@@ -106,7 +107,7 @@ fn join(
     rows: &mut [u32],
     marks: &mut [u32],
     stores: &mut [u8],
-    who: Name,
+    who: Sender,
     r: Reading,
     rest: &[u8],
     out: &mut [u8],
@@ -131,7 +132,7 @@ fn pass(
     rows: &mut [u32],
     marks: &mut [u32],
     stores: &mut [u8],
-    who: Name,
+    who: Sender,
     r: Reading,
     rest: &[u8],
     out: &mut [u8],
@@ -151,7 +152,7 @@ pub fn receive(
     rows: &mut [u32],
     marks: &mut [u32],
     stores: &mut [u8],
-    who: Name,
+    who: Sender,
     rest: &[u8],
     out: &mut [u8],
 ) -> Answer
@@ -169,9 +170,10 @@ pub fn receive(
 pub fn give_up(places: &mut [Place], rows: &mut [u32], marks: &mut [u32], who: Name) -> GivenUp
     ensures { λ r. ⌜ GivesUp (lentThree places rows marks) who r ⌝ }
 {
+    let whose = looks::sender_of(who);
     let len = finds::len(places);
-    let m = looks::reach(marks, who, len);
-    let at = finds::find(places, m, who);
+    let m = looks::reach(marks, whose, len);
+    let at = finds::find(places, m, whose);
     let g = yields::yield_step(len, at, m, rows, marks, who);
     let i = looks::freed_at(g, at, len);
     frees::free(places, m, i);

@@ -4,6 +4,7 @@ use mathlib.Core.Path.{_≡_, sym, ap, _∙_}
 use mathlib.Core.Bool.{true, false}
 use mathlib.Core.List.{List}
 use Rattle.laws.specs.Rows.{_⇒_⁏_}
+use Rattle.paper.specs.declared.Time.{Time}
 use Rattle.paper.specs.declared.Answer.{Answer}
 use Rattle.unit.specs.declared.Part.{Part}
 use Rattle.sample.specs.declared.Place.{Place}
@@ -25,20 +26,21 @@ lost p r row marks store out a e =
     ap (λ (z : Place). left (turn z r) row marks store out) (sym (ap (λ (z : After). z .own .place) e)) ∙ e
 
 -- ---- a part is taken: of the open sample, or of one that it opens
-module _ (h : Shares) (row marks store out : List ℕ) (desk time used next : ℕ) (x : Part) (d : List ℕ) (n : next ≡ laterPart time x) where
+module _ (h : Shares) (row marks store out : List ℕ) (desk time used : ℕ) (next : Time) (x : Part) (d : List ℕ)
+    (n : next ≡ laterPart time x) where
   pub part-new : joining h (own closed row marks store out) time used next (opened desk time x) x d
-      ≡ partTaken h (own closed row marks store out) desk time used x d
+      ≡ partTaken h (own closed row marks store out) desk time used (laterPart time x) x d
   unfolding sampleOf bare _⇒_⁏_
   part-new = rw n
 
   module _ (before : Place) where
     pub taken-open : before .used ≡ true → (a : After) → a ≡ joining h (own before row marks store out) time used next before x d
-        → a ≡ laidIn before (partTaken h (own (openIn before) row marks store out) desk time used x d)
+        → a ≡ laidIn before (partTaken h (own (openIn before) row marks store out) desk time used (laterPart time x) x d)
     unfolding openIn sampleOf _⇒_⁏_
     taken-open u a e = e ∙ laid-open before _ u ∙ ap (laidIn before) (rw (u, n))
 
     pub taken-new : before .used ≡ false → (a : After)
         → a ≡ laidIn before (joining h (own closed row marks store out) time used next (opened desk time x) x d)
-        → a ≡ laidIn before (partTaken h (own (openIn before) row marks store out) desk time used x d)
+        → a ≡ laidIn before (partTaken h (own (openIn before) row marks store out) desk time used (laterPart time x) x d)
     unfolding openIn _⇒_⁏_
     taken-new u a e = e ∙ ap (laidIn before) (part-new ∙ rw u)

@@ -6,6 +6,8 @@ use asks::Settled;
 use desk::Shares;
 use paper::Answer;
 use paper::Outcome;
+use paper::Refusal;
+use paper::Time;
 use paper::limits::PARTS_MOST;
 use paper::limits::SAMPLE_MOST;
 use sample::Head;
@@ -13,11 +15,12 @@ ghost use mathlib.Core.Path.{_≡_};
 ghost use mathlib.Core.Bool.{false};
 ghost use mathlib.Core.List.{List};
 ghost use Prim.Native.Nat.{ℕ, _<_};
-ghost use Rattle.desk.specs.Desk.{own, turn, left, partTaken};
+ghost use Rattle.paper.specs.declared.Time.the-variants.{Known};
+ghost use Rattle.desk.specs.Desk.{own, turn, left, laterPart, partTaken, partAt};
 ghost use Rattle.asks.specs.Settled.{before, after, openIn, laidIn, opening};
 
-// TYPE 2, 3 and 4 over a place: the desk's open sample of this time, or a free place that the part may open.
-pub fn take_part(
+// TYPE 2, 3 and 4 at a known time, over a place: the desk's open sample of that time, or a free place that the part may open.
+fn take_at(
     h: Shares,
     desk: usize,
     q: Head,
@@ -40,7 +43,7 @@ pub fn take_part(
         (partTaken h
         (own (openIn (before q kinds starts lens bytes))
         (now (row .entry)) (now (marks .entry)) store (now (out .entry)))
-        desk time (x .used) (x .part) (now (d .entry)))) ⌝ }
+        desk time (x .used) (laterPart time (x .part)) (x .part) (now (d .entry)))) ⌝ }
 {
     let used = x.used;
     let part = x.part;
@@ -80,8 +83,54 @@ pub fn take_part(
     )
 }
 
-// The same where no place is to be had or none is needed: nothing of the sample is kept in the table.
-pub fn lose(
+// TYPE 2, 3 and 4 over a place: 18, or the part is taken at its time.
+pub fn take_part(
+    h: Shares,
+    desk: usize,
+    q: Head,
+    kinds: &mut [usize; PARTS_MOST],
+    starts: &mut [usize; PARTS_MOST],
+    lens: &mut [usize; PARTS_MOST],
+    bytes: &mut [u8; SAMPLE_MOST],
+    row: &mut [u32],
+    marks: &mut [u32],
+    t: Time,
+    x: Arrival,
+    d: &[u8],
+    out: &mut [u8],
+) -> Settled
+    requires { ⌜ (q .used ≡ false → 1 < x .part .total) ⌝ }
+    ensures { λ r. ⌜ ((store : List ℕ)
+        → left (turn (after (r .head) kinds starts lens bytes) (r .answer))
+        (now (row .exit)) (now (marks .exit)) store (now (out .exit))
+        ≡ laidIn (before q kinds starts lens bytes)
+        (partAt h
+        (own (openIn (before q kinds starts lens bytes))
+        (now (row .entry)) (now (marks .entry)) store (now (out .entry)))
+        desk t (x .used) (x .part) (now (d .entry)))) ⌝ }
+{
+    match t {
+        Time::Known(time) => take_at(
+            h,
+            desk,
+            q,
+            kinds,
+            starts,
+            lens,
+            bytes,
+            row,
+            marks,
+            time,
+            x,
+            d,
+            out,
+        ),
+        Time::Unknown => asks::said(q, x.used, Time::Unknown, Outcome::Refused(Refusal::Untimed)),
+    }
+}
+
+// The same at a known time where no place is to be had or none is needed: nothing of the sample is kept in the table.
+fn lose_at(
     h: Shares,
     desk: usize,
     row: &mut [u32],
@@ -92,10 +141,10 @@ pub fn lose(
     out: &mut [u8],
 ) -> Answer
     ensures { λ r. ⌜ ((store : List ℕ)
-        → left (turn (opening h (now (row .entry)) (now (marks .entry)) store (now (out .entry)) desk time x
+        → left (turn (opening h (now (row .entry)) (now (marks .entry)) store (now (out .entry)) desk (Known time) x
         (now (d .entry)) .own .place) r)
         (now (row .exit)) (now (marks .exit)) store (now (out .exit))
-        ≡ opening h (now (row .entry)) (now (marks .entry)) store (now (out .entry)) desk time x (now (d .entry))) ⌝ }
+        ≡ opening h (now (row .entry)) (now (marks .entry)) store (now (out .entry)) desk (Known time) x (now (d .entry))) ⌝ }
 {
     let used = x.used;
     let part = x.part;
@@ -126,5 +175,28 @@ pub fn lose(
             );
             r.answer
         }
+    }
+}
+
+// The same where no place is to be had or none is needed: 18, or the part is taken at its time.
+pub fn lose(
+    h: Shares,
+    desk: usize,
+    row: &mut [u32],
+    marks: &mut [u32],
+    t: Time,
+    x: Arrival,
+    d: &[u8],
+    out: &mut [u8],
+) -> Answer
+    ensures { λ r. ⌜ ((store : List ℕ)
+        → left (turn (opening h (now (row .entry)) (now (marks .entry)) store (now (out .entry)) desk t x
+        (now (d .entry)) .own .place) r)
+        (now (row .exit)) (now (marks .exit)) store (now (out .exit))
+        ≡ opening h (now (row .entry)) (now (marks .entry)) store (now (out .entry)) desk t x (now (d .entry))) ⌝ }
+{
+    match t {
+        Time::Known(time) => lose_at(h, desk, row, marks, time, x, d, out),
+        Time::Unknown => asks::says(x.used, Time::Unknown, Outcome::Refused(Refusal::Untimed)),
     }
 }

@@ -7,6 +7,7 @@ use lib.ListN.{set}
 use Rattle.laws.specs.Rows.{yes, lt, each, no, ge, ge-of, or-none}
 use Rattle.paper.specs.Limits.{sampleMost}
 use Rattle.paper.specs.declared.Refusal.the-variants as R
+use Rattle.paper.specs.declared.Time.{Time}
 use Rattle.paper.specs.declared.Outcome.the-variants as O
 use Rattle.paper.specs.declared.Answer.{Answer}
 use Rattle.desk.specs.Desk.{Own, After, turn, left, isLate, says, inUse, newestOf, later, facts, wholeTaken, descriptionTaken}
@@ -20,29 +21,33 @@ use Rattle.style.specs.Store.{moved, improper, noted}
 use Rattle.style.specs.Store as S
 
 -- ---- TYPE 1
-module _ (s : Own) (time used next : ℕ) (w : W.Whole) (d : List ℕ) (n : next ≡ later time (w .sdur)) (b : Bool)
+module _ (s : Own) (time used : ℕ) (next : Time) (w : W.Whole) (d : List ℕ) (n : next ≡ later time (w .sdur)) (b : Bool)
     (l : b ≡ isLate s time) where
+  -- taken at this time
+  abbrev Taken : After
+  Taken = wholeTaken s time used (later time (w .sdur)) w d
+
   pub whole-late : b ≡ true → (r : Answer) → r ≡ says used next (O.Refused R.Late)
-      → left (turn (s .place) r) (s .row) (s .marks) (s .store) (s .out) ≡ wholeTaken s time used w d
+      → left (turn (s .place) r) (s .row) (s .marks) (s .store) (s .out) ≡ Taken
   unfolding wholeTaken
   whole-late h r e = yes _ _ (sym l ∙ h) (rw (e, n))
 
   module _ (early : b ≡ false) where
     pub whole-open : s .place .used ≡ true → (r : Answer) → r ≡ says used next (O.Refused R.Conflict)
-        → left (turn (s .place) r) (s .row) (s .marks) (s .store) (s .out) ≡ wholeTaken s time used w d
+        → left (turn (s .place) r) (s .row) (s .marks) (s .store) (s .out) ≡ Taken
     unfolding wholeTaken
     whole-open h r e = no _ _ (sym l ∙ early) (yes _ _ h (rw (e, n)))
 
     module _ (none : s .place .used ≡ false) where
       pub whole-size : sampleMost < w .len → (r : Answer) → r ≡ says used next (O.Refused R.Size)
-          → left (turn (s .place) r) (s .row) (s .marks) (s .store) (s .out) ≡ wholeTaken s time used w d
+          → left (turn (s .place) r) (s .row) (s .marks) (s .store) (s .out) ≡ Taken
       unfolding wholeTaken
       whole-size h r e = no _ _ (sym l ∙ early) (no _ _ none (yes _ _ (lt _ _ h) (rw (e, n))))
 
       pub whole-out : w .len ≤ sampleMost → (row marks out : List ℕ) → row ≡ markedRow (s .row) (inUse (s .marks)) time
           → marks ≡ set (s .marks) 0 (markedUsed (inUse (s .marks))) → out ≡ sets (s .out) 0 d
           → (r : Answer) → r ≡ says used next (O.Whole (facts time (w .u) (w .sidx) (w .sdur) (w .tlen) (w .len)))
-          → left (turn (s .place) r) row marks (s .store) out ≡ wholeTaken s time used w d
+          → left (turn (s .place) r) row marks (s .store) out ≡ Taken
       unfolding wholeTaken
       whole-out h row marks out a m o r e = no _ _ (sym l ∙ early) (no _ _ none (no _ _ (ge _ _ h) (rw (e, a, m, o, n))))
 
@@ -62,15 +67,15 @@ newest-fits store newest sidx d h =
     Fit : S.After → Type 0
     Fit a = a .answer .newest < 4294967296
 
-pub description-taken : (s : Own) (time used : ℕ) (w : D.Description) (d : List ℕ) (newest : ℕ) → newest ≡ newestOf (s .marks)
+pub description-taken : (s : Own) (t : Time) (used : ℕ) (w : D.Description) (d : List ℕ) (newest : ℕ) → newest ≡ newestOf (s .marks)
     → newest < 4294967296
     → (n : Noted) (store : List ℕ) → S.left n store ≡ noted (s .store) newest (w .sidx) d
-    → (marks : List ℕ) → marks ≡ set (s .marks) 1 (n .newest % 4294967296) → (r : Answer) → r ≡ says used time (n .outcome)
-    → left (turn (s .place) r) (s .row) marks store (s .out) ≡ descriptionTaken s time used w d
+    → (marks : List ℕ) → marks ≡ set (s .marks) 1 (n .newest % 4294967296) → (r : Answer) → r ≡ says used t (n .outcome)
+    → left (turn (s .place) r) (s .row) marks store (s .out) ≡ descriptionTaken s t used w d
 unfolding descriptionTaken
-description-taken s time used w d newest a h n store e marks m r t =
+description-taken s t used w d newest a h n store e marks m r g =
     let f = newest-fits (s .store) newest (w .sidx) d h in
     let i : n ≡ noted (s .store) newest (w .sidx) d .answer = ap (λ (x : S.After). x .answer) e in
     let j : store ≡ noted (s .store) newest (w .sidx) d .store = ap (λ (x : S.After). x .store) e in
     let z : n .newest % 4294967296 ≡ n .newest = omega (arith, ap (λ (x : Noted). x .newest) i) in
-    rw (← a, t, m, z, i, j)
+    rw (← a, g, m, z, i, j)

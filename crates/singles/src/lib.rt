@@ -3,6 +3,7 @@ use paper::Answer;
 use paper::Facts;
 use paper::Outcome;
 use paper::Refusal;
+use paper::Time;
 use paper::limits::SAMPLE_MOST;
 use unit::Description;
 use unit::Whole;
@@ -10,7 +11,7 @@ ghost use mathlib.Core.Path.{_≡_};
 ghost use mathlib.Core.List.{List};
 ghost use Prim.Native.Nat.{ℕ};
 ghost use Rattle.sample.specs.declared.Place.{Place};
-ghost use Rattle.desk.specs.Desk.{own, turn, left, wholeTaken, descriptionTaken};
+ghost use Rattle.desk.specs.Desk.{own, turn, left, later, wholeTaken, descriptionTaken};
 
 // TYPE 1.
 pub fn take_whole(
@@ -25,8 +26,8 @@ pub fn take_whole(
 ) -> Answer
     ensures { λ r. ⌜ ((p : Place) (store : List ℕ) → p .used ≡ is_open
         → left (turn p r) (now (row .exit)) (now (marks .exit)) store (now (out .exit))
-        ≡ wholeTaken (own p (now (row .entry)) (now (marks .entry)) store (now (out .entry))) time used w
-        (now (d .entry))) ⌝ }
+        ≡ wholeTaken (own p (now (row .entry)) (now (marks .entry)) store (now (out .entry))) time used
+        (later time (w .sdur)) w (now (d .entry))) ⌝ }
 {
     let next = asks::add_time(time, w.sdur);
     if asks::is_late(row, marks, time) {
@@ -55,16 +56,16 @@ pub fn take_whole(
 pub fn take_description(
     marks: &mut [u32],
     store: &mut [u8],
-    time: u32,
+    t: Time,
     used: usize,
     w: Description,
     d: &[u8],
 ) -> Answer
     ensures { λ r. ⌜ ((p : Place) (row out : List ℕ) → left (turn p r) row (now (marks .exit)) (now (store .exit)) out
-        ≡ descriptionTaken (own p row (now (marks .entry)) (now (store .entry)) out) time used w (now (d .entry))) ⌝ }
+        ≡ descriptionTaken (own p row (now (marks .entry)) (now (store .entry)) out) t used w (now (d .entry))) ⌝ }
 {
     let r = notes::note(store, octets::word(marks, 1) as usize, w.sidx, d);
     octets::put_word(marks, 1, (r.newest % 4294967296) as u32);
     let outcome = r.outcome;
-    asks::says(used, time, outcome)
+    asks::says(used, t, outcome)
 }

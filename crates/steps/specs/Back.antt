@@ -4,16 +4,18 @@ use Prim.Native.Nat.{ℕ, _+_, _*_, _≤_, _<_}
 use native.Mathlib.Omega.{arith}
 use mathlib.Core.Path.{_≡_, refl, sym, ap, subst, _∙_}
 use mathlib.Core.Bool.{Bool, true, false, not, true≢false}
-use mathlib.Core.List.{List, [], _++_}
+use mathlib.Core.List.{List, _++_}
 use lib.ListN.{length, set, take, drop, length-take, List·getD-eq-default, take-append-drop}
 use lib.Seq.{set-getD}
-use Rattle.laws.specs.Rows.{_⇒_⁏_, _or_, _and_, _<?_, each, below, yes, no, lt, ge, lt-of, and-of, or-none}
+use Rattle.laws.specs.Rows.{_⇒_⁏_, _or_, _and_, _<?_, each, below, no, lt-of, and-of, or-none}
 use Rattle.laws.specs.Region.{splice, splice-part}
 use Rattle.laws.specs.Table.{seek}
 use Rattle.paper.specs.Limits.{finishedMost, headSize, marksEach, storeSize, desksMost, places}
+use Rattle.paper.specs.Words.{byTime}
 use Rattle.paper.specs.declared.Answer.{Answer}
-use Rattle.paper.specs.declared.Name.{Name}
-use Rattle.paper.specs.declared.Refusal.{Refusal}
+use Rattle.paper.specs.declared.Sender.{Sender}
+use Rattle.paper.specs.declared.Time.{Time}
+use Rattle.paper.specs.declared.Time.the-variants.{Known, Unknown}
 use Rattle.paper.specs.declared.Refusal.the-variants as R
 use Rattle.paper.specs.declared.Outcome.the-variants as O
 use Rattle.unit.specs.declared.Unit.{Unit}
@@ -24,30 +26,28 @@ use Rattle.unit.specs.Reads.{Counts, Counted, reads-counted}
 use Rattle.sample.specs.declared.Place.{Place}
 use Rattle.sample.specs.Place.{bare, closed}
 use Rattle.desk.specs.declared.Shares.{Shares}
-use Rattle.desk.specs.declared.GivenUp.{GivenUp}
-use Rattle.desk.specs.declared.GivenUp.the-variants as G
-use Rattle.desk.specs.Desk.{Own, After, Given, own, says, stay, refuse, finish, isPart, partTaken, descriptionTaken, taken, received}
-use Rattle.desk.specs.Desk.{givenUp}
+use Rattle.desk.specs.Desk.{Own, After, own, says, stay, refuse, isText, isPart, partAt, descriptionTaken, taken, received}
 use Rattle.asks.specs.declared.Arrival.{Arrival}
-use Rattle.asks.specs.Settled.{openIn, hasPlace, partOf, arrivalOf, unasked, passed}
-use Rattle.table.specs.Table.{stored as putIn, holds}
+use Rattle.asks.specs.Asked.{laid-same}
+use Rattle.asks.specs.Settled.{openIn, partOf, arrivalOf, unasked, passed}
+use Rattle.table.specs.Table.{holds}
 use Rattle.others.specs.Others.{received-any as any-received}
 use Rattle.memory.specs.Table.{vacant, isAt}
-use Rattle.memory.specs.Relay.{Tables, tables, desksOf, placesOf, rowOf, marksOf, storeOf, storedShares, openAt, ownOf, placed}
-use Rattle.memory.specs.Relay.{wasOpen, isOpen, recounted, stranger, lacking, lacksThree, Done, done, ordered, settled, receivedAmong}
-use Rattle.memory.specs.Relay.{receivedAt, Released, released, yielded, returned, givenUpAmong, givenUpAt}
-use Rattle.memory.specs.Back.{placed-open, still-open, put-same}
+use Rattle.memory.specs.Relay.{Tables, tables, desksOf, placesOf, storedShares, openAt, ownOf, placed}
+use Rattle.memory.specs.Relay.{wasOpen, isOpen, recounted, stranger, lacking, Done, done, ordered, settled, receivedAmong}
+use Rattle.memory.specs.Relay.{receivedAt}
+use Rattle.memory.specs.Back.{open-unknown, placed-open, still-open, put-same}
 use Rattle.memory.specs.Counted.{recounted-same, is-closed}
-use Rattle.looks.specs.Looks.{reachOf, reachFor, askedOf, spotOf, freedAt}
-use Rattle.steps.specs.Plan.{gated, Plan, plan, planOf, ownAt, partPlanned, passPlanned, Yield, yield, yielding, placeAfter}
-use Rattle.gate.specs.Tests.{proper, three-long, all-long}
-use Rattle.steps.specs.Kept.{beforeAt, keptPlaces, joinedAt, laid-same}
-use Rattle.steps.specs.Found.{reach-all, reach-most, set-front, found, found-used, found-holds, stands-found, before-found}
+use Rattle.looks.specs.Looks.{reachAt, reachFor, askedOf, spotOf}
+use Rattle.steps.specs.Plan.{Plan, plan, planOf, ownAt, partPlanned, passPlanned}
+use Rattle.gate.specs.Tests.{proper, all-long}
+use Rattle.steps.specs.Kept.{beforeAt, keptPlaces, joinedAt}
+use Rattle.steps.specs.Found.{reach-all, reach-most, found, found-used, found-holds, before-found}
 use Rattle.steps.specs.Found.{goes, open-spot}
 use Rattle.steps.specs.Lone.{part-none}
 
 -- ---- receive
-module _ (s : Tables) (who : Name) where
+module _ (s : Tables) (who : Sender) where
   abbrev n : ℕ
   n = desksOf (s .marks)
 
@@ -100,13 +100,13 @@ module _ (s : Tables) (who : Name) where
         go (U.Whole w) e k = absurd (true≢false (sym e))
         go (U.Description w) e k = absurd (true≢false (sym e))
 
-    received-part : (h : Shares) (o : Own) → partTaken h o (who .desk) (who .time) (x .used) (x .part) bytes
+    received-part : (h : Shares) (o : Own) → partAt h o (who .desk) (who .time) (x .used) (x .part) bytes
         ≡ received h o (who .desk) (who .time) rest
     unfolding received
     received-part h o = go (r .unit) refl is-part ∙ ap (λ (z : Reading). taken h o (who .desk) (who .time) (z .used) rest (z .unit)) read
       where
         go : (u : Unit) → r .unit ≡ u → isPart u ≡ true
-            → partTaken h o (who .desk) (who .time) (r .used) (partOf u) (dataOf rest (U.Part (partOf u)))
+            → partAt h o (who .desk) (who .time) (r .used) (partOf u) (dataOf rest (U.Part (partOf u)))
             ≡ taken h o (who .desk) (who .time) (r .used) rest u
         go (U.Part w) q e = refl
         go U.End q e = absurd (true≢false (sym e))
@@ -116,7 +116,7 @@ module _ (s : Tables) (who : Name) where
         go (U.Description w) q e = absurd (true≢false (sym e))
 
     abbrev m : ℕ
-    m = reachOf n len
+    m = reachAt n (who .time) len
 
     abbrev stored : Shares
     stored = storedShares n (who .desk) (s .marks)
@@ -159,13 +159,13 @@ module _ (s : Tables) (who : Name) where
         go b e =
             each Opens (a <? m) _ _
             (λ f k u.
-            let v = before-found (who .desk) (who .time) m (s .places) (reach-most n len) (lt-of _ _ f) in
-            absurd (true≢false (sym f ∙ sym (found-used (who .desk) (who .time) m (s .places) (reach-most n len))
+            let v = before-found (who .desk) (who .time) m (s .places) (reach-most n (who .time) len) (lt-of _ _ f) in
+            absurd (true≢false (sym f ∙ sym (found-used (who .desk) (who .time) m (s .places) (reach-most n (who .time) len))
             ∙ sym (ap (λ (y : Place). y .used) v) ∙ u)))
             (λ f. each Opens _ _ _ (λ g k u. lt-of _ _ (and-of _ _ g .1)) (λ g k u. absurd (omega (arith, k))))
 
     pub joined-is : joinedAt spotAt s who x rest out ≡ receivedAt s who rest out
-    unfolding partPlanned gated receivedAmong ordered bare _⇒_⁏_
+    unfolding partPlanned receivedAmong ordered bare _⇒_⁏_
     joined-is = go one refl
       where
         p : Place
@@ -179,7 +179,7 @@ module _ (s : Tables) (who : Name) where
             let o = ownAt (who .desk) q (s .rows) (s .marks) (s .stores) out in
             one ⇒ refuse o 0 (who .time) R.Desk
             ⁏ small ⇒ refuse o 0 (who .time) R.Output
-            ⁏ partTaken stored o (who .desk) (who .time) (x .used) (x .part) bytes
+            ⁏ partAt stored o (who .desk) (who .time) (x .used) (x .part) bytes
 
         kept-at : (i : ℕ) → After → Done
         kept-at i a =
@@ -209,7 +209,7 @@ module _ (s : Tables) (who : Name) where
             (isOpen (who .desk) (who .time) q l) (makes k)
 
         fits : m ≤ len
-        fits = reach-most n len
+        fits = reach-most n (who .time) len
 
         p-is : p ≡ openAt (who .desk) (who .time) (take m (s .places))
         p-is =
@@ -235,6 +235,41 @@ module _ (s : Tables) (who : Name) where
             ap (kept-at spotAt) made-is ∙ ap (λ (i : ℕ). kept-at i (makes m)) spot-is
             ∙ (λ i. spliced (g .goes i) (g .was i) (g .is i) (makes m))
 
+        -- at an unknown time nothing is looked at and nothing put back, however many places there are
+        refusal : After
+        refusal =
+            let o = ownAt (who .desk) closed (s .rows) (s .marks) (s .stores) out in
+            small ⇒ refuse o 0 (who .time) R.Output
+            ⁏ refuse o (x .used) Unknown R.Untimed
+
+        outcome-any : who .time ≡ Unknown → (k : ℕ) → outcome k ≡ spliced (s .places) false false refusal
+        outcome-any e k =
+            let l = take k (s .places) in
+            let none : openAt (who .desk) (who .time) l ≡ closed =
+            ap (λ (t : Time). openAt (who .desk) t l) e ∙ open-unknown (who .desk) l in
+            let made : makes k ≡ refusal =
+            ap (λ (p : Place).
+            let o = ownAt (who .desk) p (s .rows) (s .marks) (s .stores) out in
+            small ⇒ refuse o 0 (who .time) R.Output ⁏ received stored o (who .desk) (who .time) rest) none
+            ∙ ap (λ (y : After).
+            small ⇒ refuse (ownAt (who .desk) closed (s .rows) (s .marks) (s .stores) out) 0 (who .time) R.Output ⁏ y)
+            (sym (received-part stored (ownAt (who .desk) closed (s .rows) (s .marks) (s .stores) out))
+            ∙ ap (λ (t : Time). partAt stored (ownAt (who .desk) closed (s .rows) (s .marks) (s .stores) out) (who .desk) t (x .used)
+            (x .part) bytes) e) in
+            let q : makes k .own .place ≡ closed =
+            ap (λ (y : After). y .own .place) made ∙ each (λ (y : After). y .own .place ≡ closed) small _ _ (λ f. refl) (λ f. refl) in
+            let back : placed (who .desk) (who .time) (makes k .own .place) l ++ drop k (s .places) ≡ s .places =
+            ap (λ (p : Place). placed (who .desk) (who .time) p l ++ drop k (s .places)) (q ∙ sym none)
+            ∙ ap (λ (z : List Place). z ++ drop k (s .places)) (placed-open (who .desk) (who .time) l) ∙ take-append-drop k (s .places) in
+            let was : wasOpen (who .desk) (who .time) l ≡ false = ap (λ (p : Place). p .used) none in
+            let is : isOpen (who .desk) (who .time) (makes k .own .place) l ≡ false =
+            ap (λ (p : Place). isOpen (who .desk) (who .time) p l) q ∙ is-closed (who .desk) (who .time) l in
+            λ i. spliced (back i) (was i) (is i) (made i)
+
+        over-all : n ≤ desksMost → places n ≤ len → (t : Time) → who .time ≡ t → outcome m ≡ outcome (places n)
+        over-all few enough (Known time) e = ap outcome (ap (λ (t : Time). reachAt n t len) e ∙ reach-all n len few enough)
+        over-all few enough Unknown e = outcome-any e m ∙ sym (outcome-any e (places n))
+
         -- 1 leaves the place, and with it the places and the numbers
         unkept : (a : After) → a .own .place ≡ p
             → kept-at spotAt a ≡ spliced (s .places) (beforeAt spotAt (s .places) .used) (beforeAt spotAt (s .places) .used) a
@@ -250,7 +285,7 @@ module _ (s : Tables) (who : Name) where
             let a = or-none _ _ e in
             let w = proper n (who .desk) (a .0) in
             let l = all-long n len (length (s .rows)) (length (s .marks)) (length (s .stores)) (a .1) in
-            kept-is ∙ ap outcome (reach-all n len (w .0) (l .0 .0))
+            kept-is ∙ over-all (w .0) (l .0 .0) (who .time) refl
 
   -- ---- any other unit: the places stay
   module _ (rest out : List ℕ) (r : Reading) (read : r ≡ readOf rest) (no-part : isPart (r .unit) ≡ false) where
@@ -265,7 +300,7 @@ module _ (s : Tables) (who : Name) where
 
     left-is : (a : Answer) (rows marks stores out′ : List ℕ) → (p : Place) → p ≡ openAt (who .desk) (who .time) (placesOf n s)
         → plan p a rows marks stores out′ ≡ planned p → done (tables (s .places) rows marks stores) out′ a ≡ receivedAt s who rest out
-    unfolding passPlanned gated receivedAmong ordered _⇒_⁏_
+    unfolding passPlanned receivedAmong ordered _⇒_⁏_
     left-is a rows marks stores out′ p k e =
         ap (λ (z : Plan). done (tables (s .places) (z .rows) (z .marks) (z .stores)) (z .out) (z .answer)) (e ∙ ap planned-of same)
         ∙ ap (λ (k : List ℕ). done (tables (s .places) (z .rows) k (z .stores)) (z .out) (z .answer))
@@ -316,48 +351,54 @@ module _ (s : Tables) (who : Name) where
             ∙ ap (λ (l : List Place). l ++ drop (places n) (s .places)) (placed-open (who .desk) (who .time) (placesOf n s))
             ∙ take-append-drop (places n) (s .places)
 
-    -- 1, and a unit that names no sample, do not look at one
-    unlooked : (one or not (hasPlace (r .unit))) ≡ true → (a : Answer) (rows marks stores out′ : List ℕ) (p q : Place)
+    -- the unit names a sample, and the time is known
+    abbrev looksAt : Time → Unit → Bool
+    looksAt t u = byTime t (λ time. isText u) false
+
+    -- else it looks at none, nor does 1
+    unlooked : (one or not (looksAt (who .time) (r .unit))) ≡ true → (a : Answer) (rows marks stores out′ : List ℕ) (p q : Place)
         → plan p a rows marks stores out′ ≡ planned p → plan q a rows marks stores out′ ≡ planned q
-    unfolding passPlanned gated passed descriptionTaken _⇒_⁏_
+    unfolding passPlanned passed descriptionTaken _⇒_⁏_
     unlooked none a rows marks stores out′ p q e =
-        ap (λ (z : Plan). plan q (z .answer) (z .rows) (z .marks) (z .stores) (z .out)) e ∙ go one (length out <? 1024) (r .unit) none
+        ap (λ (z : Plan). plan q (z .answer) (z .rows) (z .marks) (z .stores) (z .out)) e
+        ∙ go one (length out <? 1024) (who .time) (r .unit) none
       where
-        made : (one small : Bool) → Unit → Place → After
-        made one small u q =
+        made : (one small : Bool) → Time → Unit → Place → After
+        made one small t u q =
             let o = ownAt (who .desk) q (s .rows) (s .marks) (s .stores) out in
-            one ⇒ refuse o 0 (who .time) R.Desk
-            ⁏ small ⇒ refuse o 0 (who .time) R.Output
-            ⁏ isPart u ⇒ stay o 0 (who .time) O.End
-            ⁏ taken unasked o 0 (who .time) (r .used) rest u
+            one ⇒ refuse o 0 t R.Desk
+            ⁏ small ⇒ refuse o 0 t R.Output
+            ⁏ isPart u ⇒ stay o 0 t O.End
+            ⁏ taken unasked o 0 t (r .used) rest u
 
         moved : After → Plan
         moved y =
             let z = planOf (who .desk) (s .rows) (s .marks) (s .stores) y in plan q (z .answer) (z .rows) (z .marks) (z .stores) (z .out)
 
-        go : (one small : Bool) (u : Unit) → (one or not (hasPlace u)) ≡ true
-            → moved (made one small u p) ≡ planOf (who .desk) (s .rows) (s .marks) (s .stores) (made one small u q)
-        go true small u k = refl
-        go false true u k = refl
-        go false false U.End k = refl
-        go false false (U.Skipped t) k = refl
-        go false false (U.Refused w) k = refl
-        go false false (U.Whole w) k = absurd (true≢false (sym k))
-        go false false (U.Part w) k = absurd (true≢false (sym k))
-        go false false (U.Description w) k = refl
+        go : (one small : Bool) (t : Time) (u : Unit) → (one or not (looksAt t u)) ≡ true
+            → moved (made one small t u p) ≡ planOf (who .desk) (s .rows) (s .marks) (s .stores) (made one small t u q)
+        go true small t u k = refl
+        go false true t u k = refl
+        go false false t U.End k = refl
+        go false false t (U.Skipped y) k = refl
+        go false false t (U.Refused w) k = refl
+        go false false (Known time) (U.Whole w) k = absurd (true≢false (sym k))
+        go false false Unknown (U.Whole w) k = refl
+        go false false t (U.Part w) k = refl
+        go false false t (U.Description w) k = refl
 
     pub passed-is : (a : Answer) (rows marks stores out′ : List ℕ)
-        → ((p : Place) → p .used ≡ holds (isAt (who .desk) (who .time)) (take (reachFor n len (r .unit)) (s .places))
+        → ((p : Place) → p .used ≡ holds (isAt (who .desk) (who .time)) (take (reachFor n (who .time) len (r .unit)) (s .places))
         → plan p a rows marks stores out′ ≡ planned p)
         → done (tables (s .places) rows marks stores) out′ a ≡ receivedAt s who rest out
     unfolding _⇒_⁏_
-    passed-is a rows marks stores out′ e = go one refl (hasPlace (r .unit)) refl
+    passed-is a rows marks stores out′ e = go one refl (who .time) refl (isText (r .unit)) refl
       where
         k : ℕ
-        k = reachFor n len (r .unit)
+        k = reachFor n (who .time) len (r .unit)
 
         fits : k ≤ len
-        fits = each (λ (j : ℕ). j ≤ len) (hasPlace (r .unit)) (reachOf n len) 0 (λ h. reach-most n len) (λ h. omega arith)
+        fits = each (λ (j : ℕ). j ≤ len) (isText (r .unit)) _ 0 (λ h. reach-most n (who .time) len) (λ h. omega arith)
 
         it : Place
         it = found (who .desk) (who .time) k (s .places) fits
@@ -365,126 +406,20 @@ module _ (s : Tables) (who : Name) where
         kept-to : plan it a rows marks stores out′ ≡ planned it
         kept-to = e it (found-holds (who .desk) (who .time) k (s .places) fits)
 
-        go : (b : Bool) → one ≡ b → (c : Bool) → hasPlace (r .unit) ≡ c → done (tables (s .places) rows marks stores) out′ a
-            ≡ receivedAt s who rest out
-        go true f c g =
+        any : (one or not (looksAt (who .time) (r .unit))) ≡ true
+            → done (tables (s .places) rows marks stores) out′ a ≡ receivedAt s who rest out
+        any none =
             left-is a rows marks stores out′ (openAt (who .desk) (who .time) (placesOf n s)) refl
-            (unlooked (ap (λ (b : Bool). b or not (hasPlace (r .unit))) f) a rows marks stores out′ it _ kept-to)
-        go false f false g =
-            left-is a rows marks stores out′ (openAt (who .desk) (who .time) (placesOf n s)) refl
-            (unlooked (ap (λ (b : Bool). b or not (hasPlace (r .unit))) f ∙ ap not g) a rows marks stores out′ it _ kept-to)
-        go false f true g =
+            (unlooked none a rows marks stores out′ it _ kept-to)
+
+        go : (b : Bool) → one ≡ b → (t : Time) → who .time ≡ t → (c : Bool) → isText (r .unit) ≡ c
+            → done (tables (s .places) rows marks stores) out′ a ≡ receivedAt s who rest out
+        go true f t h c g = any (ap (λ (b : Bool). b or not (looksAt (who .time) (r .unit))) f)
+        go false f Unknown h c g = any (λ i. f i or not (looksAt (h i) (r .unit)))
+        go false f (Known time) h false g = any ((λ i. f i or not (looksAt (h i) (r .unit))) ∙ ap not g)
+        go false f (Known time) h true g =
             let w = or-none _ _ f in
             let v = proper n (who .desk) (w .0) in
             let l = all-long n len (length (s .rows)) (length (s .marks)) (length (s .stores)) (w .1) in
-            let q : k ≡ places n = ap (λ (b : Bool). b ⇒ reachOf n len ⁏ 0) g ∙ reach-all n len (v .0) (l .0 .0) in
+            let q : k ≡ places n = (λ i. g i ⇒ reachAt n (h i) len ⁏ 0) ∙ reach-all n len (v .0) (l .0 .0) in
             left-is a rows marks stores out′ it (ap (λ (j : ℕ). openAt (who .desk) (who .time) (take j (s .places))) q) kept-to
-
-  -- ---- give-up, which is lent no store
-  abbrev reach : ℕ
-  reach = reachOf n len
-
-  abbrev it : Place
-  it = found (who .desk) (who .time) reach (s .places) (reach-most n len)
-
-  abbrev freeing : GivenUp → List Place
-  freeing r = putIn reach (freedAt r (seek (isAt (who .desk) (who .time)) (take reach (s .places))) len) closed (s .places)
-
-  pub given-up-is : (r : GivenUp) (rows marks : List ℕ)
-      → ((p : Place) → p .used ≡ (seek (isAt (who .desk) (who .time)) (take reach (s .places)) <? reach)
-      → yield (placeAfter r p) r rows marks ≡ yielding len p (s .rows) (s .marks) who)
-      → released (tables (freeing r) rows marks (s .stores)) r ≡ givenUpAt s who
-  unfolding yielding givenUpAmong yielded givenUp bare _⇒_⁏_
-  given-up-is r rows marks e =
-      ap (λ (z : Yield). released (tables (freeing (z .answer)) (z .rows) (z .marks) (s .stores)) (z .answer))
-      (e it (found-used (who .desk) (who .time) reach (s .places) (reach-most n len))) ∙ go lack refl
-    where
-      lack : Bool
-      lack = stranger n (who .desk) or lacksThree n len (length (s .rows)) (length (s .marks))
-
-      hers : Place → List ℕ → Own
-      hers p store = own p (rowOf (who .desk) (s .rows)) (marksOf (who .desk) (s .marks)) store []
-
-      gives : (b : Bool) → Place → List ℕ → Given
-      gives b p store = b ⇒ record { own = hers p store; answer = G.Refused R.Desk } ⁏ givenUp (hers p store) (who .time)
-
-      let-go : Given → Released
-      let-go a =
-          released (tables (freeing (a .answer)) (splice (finishedMost * who .desk) finishedMost (a .own .row) (s .rows))
-          (recounted (who .desk) (it .used) (a .own .place .used)
-          (splice (headSize + marksEach * who .desk) marksEach (a .own .marks) (s .marks))) (s .stores)) (a .answer)
-
-      -- a refusal frees nothing
-      none-freed : (w : Refusal) → freeing (G.Refused w) ≡ s .places
-      none-freed w = sym (no _ _ (ge _ _ (reach-most n len)) refl)
-
-      same : (w : Refusal) → let-go (record { own = hers it []; answer = G.Refused w }) ≡ released s (G.Refused w)
-      same w =
-          rw (
-            none-freed w,
-            splice-part (finishedMost * who .desk) finishedMost (s .rows),
-            splice-part (headSize + marksEach * who .desk) marksEach (s .marks),
-            recounted-same (who .desk) (it .used) (s .marks),
-          )
-
-      held : (w : Refusal) → released s (G.Refused w)
-          ≡ returned n s (who .desk) (who .time) (record { own = ownOf n s (who .desk) (who .time) []; answer = G.Refused w })
-      held w = ap (λ (t : Tables). released t (G.Refused w)) (sym (put-same n s (who .desk) (who .time) []))
-
-      settles : (b : Bool) → Place → List ℕ → Given
-      settles b p store =
-          b ⇒ record { own = finish (hers p store) (who .time) closed []; answer = G.Freed }
-          ⁏ record { own = hers p store; answer = G.Refused R.NotOpen }
-
-      freed-at : reach ≡ places n → it .used ≡ true
-          → freeing G.Freed ≡ placed (who .desk) (who .time) closed (placesOf n s) ++ drop (places n) (s .places)
-      freed-at q u =
-          let u′ = found-used (who .desk) (who .time) reach (s .places) (reach-most n len) in
-          let h = lt-of _ _ (sym u′ ∙ u) in
-          sym (yes _ _ (lt _ _ h) refl) ∙ set-front reach _ closed (s .places) (reach-most n len) h
-          ∙ ap (λ (i : ℕ). set (take reach (s .places)) i closed ++ drop reach (s .places))
-          (sym (stands-found (who .desk) (who .time) reach (s .places) (reach-most n len) h closed))
-          ∙ ap (λ (k : ℕ). placed (who .desk) (who .time) closed (take k (s .places)) ++ drop k (s .places)) q
-
-      stayed : reach ≡ places n → (w : Refusal) → released s (G.Refused w)
-          ≡ returned n s (who .desk) (who .time) (record { own = hers it (storeOf (who .desk) (s .stores)); answer = G.Refused w })
-      stayed q w =
-          held w
-          ∙ ap (λ (k : ℕ). returned n s (who .desk) (who .time)
-          (record {
-            own = hers (openAt (who .desk) (who .time) (take k (s .places)))
-                (storeOf (who .desk) (s .stores));
-            answer = G.Refused w;
-          })) (sym q)
-
-      used-is : reach ≡ places n → it .used ≡ openAt (who .desk) (who .time) (placesOf n s) .used
-      used-is q = ap (λ (k : ℕ). openAt (who .desk) (who .time) (take k (s .places)) .used) q
-
-      case-of : reach ≡ places n → (b : Bool) → it .used ≡ b
-          → let-go (settles b it []) ≡ returned n s (who .desk) (who .time) (settles b it (storeOf (who .desk) (s .stores)))
-      case-of q true u =
-          rw (
-            freed-at q u,
-            splice-part (storeSize * who .desk) storeSize (s .stores),
-            is-closed (who .desk) (who .time) (placesOf n s),
-            ← (used-is q),
-          )
-      case-of q false u = same R.NotOpen ∙ stayed q R.NotOpen
-
-      through : n ≤ desksMost → places n ≤ len → let-go (givenUp (hers it []) (who .time))
-          ≡ returned n s (who .desk) (who .time) (givenUp (ownOf n s (who .desk) (who .time) []) (who .time))
-      through few enough =
-          let q = reach-all n len few enough in
-          let same-it : it ≡ openAt (who .desk) (who .time) (placesOf n s) = ap
-          (λ (k : ℕ). openAt (who .desk) (who .time) (take k (s .places))) q in
-          case-of q (it .used) refl
-          ∙ ap (λ (p : Place). returned n s (who .desk) (who .time) (givenUp (hers p (storeOf (who .desk) (s .stores))) (who .time)))
-          same-it
-
-      go : (b : Bool) → lack ≡ b → let-go (gives b it [])
-          ≡ returned n s (who .desk) (who .time) (gives b (openAt (who .desk) (who .time) (placesOf n s)) (storeOf (who .desk) (s .stores)))
-      go true f = same R.Desk ∙ held R.Desk
-      go false f =
-          let a = or-none _ _ f in
-          let w = proper n (who .desk) (a .0) in
-          through (w .0) (three-long n len (length (s .rows)) (length (s .marks)) (a .1) .0)

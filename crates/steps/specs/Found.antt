@@ -9,6 +9,8 @@ use lib.Seq.{set-out, set-getD, getD-set-same, getD-take, length-take-le, set-ap
 use Rattle.laws.specs.Rows.{_⇒_⁏_, _or_, _and_, _<?_, each, yes, no, lt, ge, lt-of, ge-of, and-of, not-is}
 use Rattle.laws.specs.Table.{seek, seek-hit}
 use Rattle.paper.specs.Limits.{desksMost, places}
+use Rattle.paper.specs.declared.Time.{Time}
+use Rattle.paper.specs.declared.Time.the-variants.{Known, Unknown}
 use Rattle.sample.specs.declared.Place.{Place}
 use Rattle.sample.specs.Place.{bare, closed}
 use Rattle.asks.specs.Settled.{openIn, laid}
@@ -16,7 +18,7 @@ use Rattle.table.specs.Table.{holds}
 use Rattle.memory.specs.Table.{vacant, isAt}
 use Rattle.memory.specs.Relay.{standsAt, placed, wasOpen, isOpen}
 use Rattle.memory.specs.Counted.{is-open, is-none}
-use Rattle.looks.specs.Looks.{reachOf, spotOf}
+use Rattle.looks.specs.Looks.{reachOf, reachAt, spotOf}
 use Rattle.steps.specs.Kept.{beforeAt, keptPlaces, open-none}
 
 -- ---- the table
@@ -24,9 +26,10 @@ pub reach-all : (n len : ℕ) → n ≤ desksMost → places n ≤ len → reach
 unfolding reachOf
 reach-all n len h k = let q : min (places n) len ≡ places n = omega arith in sym (no _ _ (ge _ _ h) (sym q))
 
-pub reach-most : (n len : ℕ) → reachOf n len ≤ len
+pub reach-most : (n : ℕ) (t : Time) (len : ℕ) → reachAt n t len ≤ len
 unfolding reachOf
-reach-most n len = each (λ (m : ℕ). m ≤ len) _ _ _ (λ e. omega arith) (λ e. omega arith)
+reach-most n (Known time) len = each (λ (m : ℕ). m ≤ len) _ _ _ (λ e. omega arith) (λ e. omega arith)
+reach-most n Unknown len = omega arith
 
 -- where there are m places, a store among them leaves what lies beyond
 pub set-front : (m i : ℕ) (p : Place) (l : List Place) → m ≤ length l → i < m → set l i p ≡ set (take m l) i p ++ drop m l
@@ -38,9 +41,9 @@ set-none : (m i : ℕ) (p : Place) (l : List Place) → m ≤ length l → m ≤
 set-none m i p l k h =
     sym (ap (λ (x : List Place). x ++ drop m l) (set-out (take m l) i p (omega (arith, length-take-le m l k))) ∙ take-append-drop m l)
 
-module _ (desk time m : ℕ) (l : List Place) (fits : m ≤ length l) where
+module _ (desk : ℕ) (t : Time) (m : ℕ) (l : List Place) (fits : m ≤ length l) where
   abbrev pub at : ℕ
-  at = seek (isAt desk time) (take m l)
+  at = seek (isAt desk t) (take m l)
 
   abbrev low : ℕ
   low = seek vacant (take m l)
@@ -57,18 +60,18 @@ module _ (desk time m : ℕ) (l : List Place) (fits : m ≤ length l) where
   found-used = go (at <? m) refl
     where
       go : (b : Bool) → (at <? m) ≡ b → found .used ≡ b
-      go true e = and-of _ _ (seek-hit (isAt desk time) (take m l) closed (omega (arith, lt-of _ _ e, long))) .0
+      go true e = and-of _ _ (seek-hit (isAt desk t) (take m l) closed (omega (arith, lt-of _ _ e, long))) .0
       go false e = ap (λ (y : Place). y .used) (List·getD-eq-default (take m l) closed (omega (arith, ge-of _ _ e, long)))
 
-  pub found-holds : found .used ≡ holds (isAt desk time) (take m l)
+  pub found-holds : found .used ≡ holds (isAt desk t) (take m l)
   found-holds = found-used ∙ ap (λ (k : ℕ). at <? k) (sym long)
 
   -- where it stands
-  pub stands-found : at < m → (p : Place) → standsAt desk time p (take m l) ≡ at
+  pub stands-found : at < m → (p : Place) → standsAt desk t p (take m l) ≡ at
   unfolding standsAt
   stands-found h p = sym (yes _ _ (lt _ _ (omega (arith, long))) refl)
 
-  stands-new : m ≤ at → (p : Place) → standsAt desk time p (take m l) ≡ (p .used ⇒ low ⁏ m)
+  stands-new : m ≤ at → (p : Place) → standsAt desk t p (take m l) ≡ (p .used ⇒ low ⁏ m)
   unfolding standsAt
   stands-new h p = sym (no _ _ (ge _ _ (omega (arith, long))) (ap (λ (k : ℕ). p .used ⇒ low ⁏ k) (sym long)))
 
@@ -77,9 +80,9 @@ module _ (desk time m : ℕ) (l : List Place) (fits : m ≤ length l) where
   spot total = spotOf at low m (length l) total
 
   pub record Goes (i : ℕ) (p : Place) : Type 0 where
-    pub goes : keptPlaces i l p ≡ placed desk time p (take m l) ++ drop m l
-    pub was : beforeAt i l .used ≡ wasOpen desk time (take m l)
-    pub is : beforeAt i (keptPlaces i l p) .used ≡ isOpen desk time p (take m l)
+    pub goes : keptPlaces i l p ≡ placed desk t p (take m l) ++ drop m l
+    pub was : beforeAt i l .used ≡ wasOpen desk t (take m l)
+    pub is : beforeAt i (keptPlaces i l p) .used ≡ isOpen desk t p (take m l)
 
   pub before-found : at < m → beforeAt at l ≡ found
   before-found h = sym (getD-take m l at closed h)
@@ -95,7 +98,7 @@ module _ (desk time m : ℕ) (l : List Place) (fits : m ≤ length l) where
         was = ap (λ (y : Place). y .used) (before-found h);
         is =
             ap (λ (y : Place). y .used) (getD-set-same l at _ closed (omega arith) ∙ sym q)
-            ∙ sym (is-open desk time (take m l) p (omega (arith, i, long)));
+            ∙ sym (is-open desk t (take m l) p (omega (arith, i, long)));
       }
 
   before-low : low < m → beforeAt low l .used ≡ false
@@ -103,7 +106,7 @@ module _ (desk time m : ℕ) (l : List Place) (fits : m ≤ length l) where
       let e = seek-hit vacant (take m l) closed (omega (arith, long)) in
       ap (λ (y : Place). y .used) (sym (getD-take m l low closed h)) ∙ not-is _ e
 
-  was-none : m ≤ at → wasOpen desk time (take m l) ≡ false
+  was-none : m ≤ at → wasOpen desk t (take m l) ≡ false
   was-none h = found-used ∙ ge _ _ h
 
   goes-new : m ≤ at → low < m → (p : Place) → Goes low p
@@ -122,10 +125,10 @@ module _ (desk time m : ℕ) (l : List Place) (fits : m ≤ length l) where
       put true = set-front m low p l fits k
       put false = set-getD l low closed ∙ set-none m m p l fits (omega arith)
 
-      open-in : (b : Bool) → standsAt desk time p (take m l) ≡ (b ⇒ low ⁏ m)
-          → (b ⇒ p ⁏ beforeAt low l) .used ≡ isOpen desk time p (take m l)
-      open-in true q = sym (is-open desk time (take m l) p (omega (arith, q, long)))
-      open-in false q = before-low k ∙ sym (is-none desk time (take m l) p (omega (arith, q, long)))
+      open-in : (b : Bool) → standsAt desk t p (take m l) ≡ (b ⇒ low ⁏ m)
+          → (b ⇒ p ⁏ beforeAt low l) .used ≡ isOpen desk t p (take m l)
+      open-in true q = sym (is-open desk t (take m l) p (omega (arith, q, long)))
+      open-in false q = before-low k ∙ sym (is-none desk t (take m l) p (omega (arith, q, long)))
 
   -- where it is kept in none, it is not to be kept, or there is none
   goes-none : m ≤ at → (p : Place) → (p .used ≡ true → m ≤ low) → Goes (length l) p
@@ -135,16 +138,16 @@ module _ (desk time m : ℕ) (l : List Place) (fits : m ≤ length l) where
         set-out l (length l) _ (omega arith) ∙ put (p .used) k ∙ ap (λ (i : ℕ). set (take m l) i p ++ drop m l) (sym (stands-new h p));
     was = none ∙ sym (was-none h);
     is =
-        ap (λ (t : List Place). beforeAt (length l) t .used) (set-out l (length l) _ (omega arith))
-        ∙ none ∙ sym (is-none desk time (take m l) p (past (p .used) k (stands-new h p)));
+        ap (λ (k : List Place). beforeAt (length l) k .used) (set-out l (length l) _ (omega arith))
+        ∙ none ∙ sym (is-none desk t (take m l) p (past (p .used) k (stands-new h p)));
   }
     where
       put : (b : Bool) → (b ≡ true → m ≤ low) → l ≡ set (take m l) (b ⇒ low ⁏ m) p ++ drop m l
       put true k = set-none m low p l fits (k refl)
       put false k = set-none m m p l fits (omega arith)
 
-      past : (b : Bool) → (b ≡ true → m ≤ low) → standsAt desk time p (take m l) ≡ (b ⇒ low ⁏ m)
-          → length (take m l) ≤ standsAt desk time p (take m l)
+      past : (b : Bool) → (b ≡ true → m ≤ low) → standsAt desk t p (take m l) ≡ (b ⇒ low ⁏ m)
+          → length (take m l) ≤ standsAt desk t p (take m l)
       past true k q = omega (arith, q, k refl, long)
       past false k q = omega (arith, q, long)
 

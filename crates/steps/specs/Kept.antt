@@ -2,15 +2,15 @@
 use Prim.Native.Nat.{ℕ, _≤_, _<_}
 use native.Mathlib.Omega.{arith}
 use mathlib.Core.Path.{_≡_, refl, sym, ap, _∙_}
-use mathlib.Core.Bool.{Bool, true, false}
+use mathlib.Core.Bool.{Bool}
 use mathlib.Core.List.{List}
 use denote.Ref.{now}
 use lib.ListN.{length, getD, set, List·getD-eq-default}
 use lib.Seq.{set-out, getD-set-same}
-use Rattle.laws.specs.Rows.{_⇒_⁏_, no}
+use Rattle.laws.specs.Rows.{no}
 use Rattle.paper.specs.Limits.{places}
 use Rattle.paper.specs.declared.Answer.{Answer}
-use Rattle.paper.specs.declared.Name.{Name}
+use Rattle.paper.specs.declared.Sender.{Sender}
 use Rattle.sample.specs.declared.Place.{Place}
 use Rattle.sample.specs.Place.{bare, closed}
 use Rattle.asks.specs.declared.Arrival.{Arrival}
@@ -24,7 +24,7 @@ use Rattle.steps.specs.Plan.{Plan, plan, partPlanned, laidPlan, countedP
 abbrev pub beforeAt : (i : ℕ) → List Place → Place
 beforeAt i l = getD l i closed
 
-abbrev pub keptPlan : (i : ℕ) → Tables → Name → Arrival → (rest out : List ℕ) → Plan
+abbrev pub keptPlan : (i : ℕ) → Tables → Sender → Arrival → (rest out : List ℕ) → Plan
 keptPlan i s who x rest out =
     partPlanned (length (s .places)) (openIn (beforeAt i (s .places))) (s .rows) (s .marks) (s .stores) out who x rest
 
@@ -38,11 +38,11 @@ keptDone i desk s x =
     done (tables l (x .rows) (recounted desk (beforeAt i (s .places) .used) (beforeAt i l .used) (x .marks)) (x .stores)) (x .out)
     (x .answer)
 
-abbrev pub joinedAt : (i : ℕ) → Tables → Name → Arrival → (rest out : List ℕ) → Done
+abbrev pub joinedAt : (i : ℕ) → Tables → Sender → Arrival → (rest out : List ℕ) → Done
 joinedAt i s who x rest out = keptDone i (who .desk) s (keptPlan i s who x rest out)
 
 -- what a call with the part leaves and answers, with stores of a length that was told, whatever they hold
-abbrev pub JoinsAt : (i : ℕ) → (List ℕ → Lent) → (storeLen : ℕ) → Name → Arrival → (rest out : Slice ℕ) → Answer → Type 0
+abbrev pub JoinsAt : (i : ℕ) → (List ℕ → Lent) → (storeLen : ℕ) → Sender → Arrival → (rest out : Slice ℕ) → Answer → Type 0
 JoinsAt i l storeLen who x rest out r =
     (stores : List ℕ) → length stores ≡ storeLen
     → done (l stores .exit) (now (out .exit)) r ≡ joinedAt i (l stores .entry) who x (now (rest .entry)) (now (out .entry))
@@ -52,7 +52,7 @@ pub open-none : openIn closed ≡ closed
 unfolding openIn bare
 open-none = sym (no _ closed refl refl)
 
-module _ (i len : ℕ) (s : Tables) (who : Name) (x : Arrival) (rest out : List ℕ) (l : len ≡ length (s .places)) where
+module _ (i len : ℕ) (s : Tables) (who : Sender) (x : Arrival) (rest out : List ℕ) (l : len ≡ length (s .places)) where
   abbrev planOver : (len : ℕ) → Place → Plan
   planOver len p = partPlanned len p (s .rows) (s .marks) (s .stores) out who x rest
 
@@ -89,12 +89,3 @@ module _ (i len : ℕ) (s : Tables) (who : Name) (x : Arrival) (rest out : List 
           ∙ ap (λ (t : List Place). done
           (tables t (z .rows) (recounted (who .desk) (before .used) (beforeAt i t .used) (z .marks)) (z .stores)) (z .out) (z .answer))
           (sym (set-out (s .places) i _ (omega arith)))
-
--- in a place that nothing was made of, nothing changes
-pub laid-same : (before : Place) → laid before (openIn before) ≡ before
-unfolding laid openIn bare _⇒_⁏_
-laid-same before = go (before .used) refl
-  where
-    go : (b : Bool) → before .used ≡ b → (b ⇒ (b ⇒ before ⁏ closed) ⁏ (b ⇒ before ⁏ closed) .used ⇒ (b ⇒ before ⁏ closed) ⁏ before) ≡ before
-    go true e = refl
-    go false e = refl

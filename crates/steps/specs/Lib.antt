@@ -4,3 +4,4 @@ pub mod Steps
 pub mod Found
 pub mod Lone
 pub mod Back
+pub mod Yielded

@@ -3,29 +3,21 @@ use Prim.Native.Nat.{ℕ, _+_, _*_}
 use mathlib.Core.Bool.{Bool}
 use mathlib.Core.List.{List, []}
 use lib.ListN.{length}
-use Rattle.laws.specs.Rows.{_⇒_⁏_, _or_, _<?_}
+use Rattle.laws.specs.Rows.{_or_}
 use Rattle.laws.specs.Region.{part, splice}
-use Rattle.paper.specs.Limits.{sampleMost, finishedMost, marksEach, storeSize, headSize}
+use Rattle.paper.specs.Limits.{finishedMost, marksEach, storeSize, headSize}
 use Rattle.paper.specs.declared.Answer.{Answer}
 use Rattle.paper.specs.declared.Name.{Name}
-use Rattle.paper.specs.declared.Refusal.the-variants as R
+use Rattle.paper.specs.declared.Sender.{Sender}
 use Rattle.unit.specs.declared.Reading.{Reading}
 use Rattle.sample.specs.declared.Place.{Place}
 use Rattle.sample.specs.Place.{closed}
 use Rattle.desk.specs.declared.GivenUp.{GivenUp}
 use Rattle.desk.specs.declared.GivenUp.the-variants as G
-use Rattle.desk.specs.Desk.{Own, After, Given, own, refuse, partTaken}
+use Rattle.desk.specs.Desk.{Own, After, Given, own, partAt}
 use Rattle.asks.specs.declared.Arrival.{Arrival}
 use Rattle.asks.specs.Settled.{laid, passed}
-use Rattle.memory.specs.Relay.{rowOf, marksOf, storeOf, desksOf, storedShares, recounted, stranger, lacks, lacksThree, yielded}
-
--- ---- 1 and 2
--- 1 (`one` says whether), 2, then what the desk makes of it
-unfoldable pub gated : (one : Bool) → Own → (time : ℕ) → After → After
-gated one s time a =
-    one ⇒ refuse s 0 time R.Desk
-    ⁏ length (s .out) <? sampleMost ⇒ refuse s 0 time R.Output
-    ⁏ a
+use Rattle.memory.specs.Relay.{rowOf, marksOf, storeOf, desksOf, storedShares, recounted, stranger, lacks, lacksThree, gated, yielded}
 
 -- ---- what a call leaves of everything but the table, and its answer
 pub record Plan : Type 0 where
@@ -50,7 +42,7 @@ abbrev pub ownAt : (desk : ℕ) → Place → (rows marks stores out : List ℕ)
 ownAt desk p rows marks stores out = own p (rowOf desk rows) (marksOf desk marks) (storeOf desk stores) out
 
 -- `table` places are lent; a is what the desk makes of its own things
-abbrev pub settledPlan : (table : ℕ) → Place → (rows marks stores out : List ℕ) → Name → (Own → After) → Plan
+abbrev pub settledPlan : (table : ℕ) → Place → (rows marks stores out : List ℕ) → Sender → (Own → After) → Plan
 settledPlan table p rows marks stores out who a =
     planOf (who .desk) rows marks stores
     (gated (stranger (desksOf marks) (who .desk) or lacks (desksOf marks) table (length rows) (length marks) (length stores))
@@ -60,10 +52,10 @@ settledPlan table p rows marks stores out who a =
 abbrev pub partOfRest : Arrival → (rest : List ℕ) → List ℕ
 partOfRest x rest = part (x .part .start) (x .part .len) rest
 
-unfoldable pub partPlanned : (table : ℕ) → Place → (rows marks stores out : List ℕ) → Name → Arrival → (rest : List ℕ) → Plan
+unfoldable pub partPlanned : (table : ℕ) → Place → (rows marks stores out : List ℕ) → Sender → Arrival → (rest : List ℕ) → Plan
 partPlanned table p rows marks stores out who x rest =
     settledPlan table p rows marks stores out who
-    (λ (s : Own). partTaken (storedShares (desksOf marks) (who .desk) marks) s (who .desk) (who .time) (x .used) (x .part)
+    (λ (s : Own). partAt (storedShares (desksOf marks) (who .desk) marks) s (who .desk) (who .time) (x .used) (x .part)
     (partOfRest x rest))
 
 -- in a free place that was to be opened nothing changes where no sample was
@@ -76,7 +68,7 @@ countedPlan desk was x =
     plan (x .place) (x .answer) (x .rows) (recounted desk was (x .place .used) (x .marks)) (x .stores) (x .out)
 
 -- any other unit
-unfoldable pub passPlanned : (table : ℕ) → Place → (rows marks stores out : List ℕ) → Name → Reading → (rest : List ℕ) → Plan
+unfoldable pub passPlanned : (table : ℕ) → Place → (rows marks stores out : List ℕ) → Sender → Reading → (rest : List ℕ) → Plan
 passPlanned table p rows marks stores out who r rest =
     settledPlan table p rows marks stores out who (λ (s : Own). passed s (who .time) r rest)
 

@@ -10,6 +10,7 @@ use Rattle.laws.specs.Region.{part, splice, splice-part}
 use Rattle.paper.specs.Limits.{finishedMost, headSize, marksEach, storeSize}
 use Rattle.paper.specs.declared.Answer.{Answer}
 use Rattle.paper.specs.declared.Name.{Name}
+use Rattle.paper.specs.declared.Sender.{Sender}
 use Rattle.paper.specs.declared.Refusal.{Refusal}
 use Rattle.paper.specs.declared.Refusal.the-variants as R
 use Rattle.paper.specs.declared.Outcome.the-variants as O
@@ -19,16 +20,16 @@ use Rattle.sample.specs.Place.{bare, closed}
 use Rattle.desk.specs.declared.Shares.{Shares}
 use Rattle.desk.specs.declared.GivenUp.{GivenUp}
 use Rattle.desk.specs.declared.GivenUp.the-variants as G
-use Rattle.desk.specs.Desk.{Own, After, Given, own, says, turn, left, freed, refuse, partTaken, givenUp}
+use Rattle.desk.specs.Desk.{Own, After, Given, own, says, turn, left, freed, refuse, partAt, givenUp}
 use Rattle.asks.specs.declared.Arrival.{Arrival}
 use Rattle.asks.specs.Settled.{openIn, laidIn, passed}
+use Rattle.asks.specs.Asked.{laid-same}
 use Rattle.memory.specs.Relay.{desksOf, rowOf, marksOf, storeOf, storedShares, recounted, stranger, lacksThree, yielded}
 use Rattle.memory.specs.Counted.{recounted-same}
 use Rattle.gate.specs.declared.Gate.{Gate}
 use Rattle.gate.specs.declared.Gate.the-variants.{Through, Shut}
 use Rattle.gate.specs.Gate.{gateOf}
-use Rattle.steps.specs.Kept.{laid-same}
-use Rattle.steps.specs.Plan.{gated, Plan, plan, planOf, ownAt, settledPlan, partOfRest, partPlanned, laidPlan, countedPlan}
+use Rattle.steps.specs.Plan.{Plan, plan, planOf, ownAt, settledPlan, partOfRest, partPlanned, laidPlan, countedPlan}
 use Rattle.steps.specs.Plan.{passPlanned, Yield, yield, yieldOf, countedYield, yielding, placeAfter}
 use Rattle.gate.specs.Tests.{either, other, shut, clear}
 
@@ -53,7 +54,7 @@ abbrev storeAt : (desk : ℕ) → ℕ
 storeAt desk = storeSize * desk
 
 -- ---- receive, whatever the desk makes of it
-module _ (table : ℕ) (p : Place) (rows marks stores out : List ℕ) (who : Name) (a : Own → After) (g : Gate)
+module _ (table : ℕ) (p : Place) (rows marks stores out : List ℕ) (who : Sender) (a : Own → After) (g : Gate)
     (f : g ≡ gateOf (desksOf marks) table (length rows) (length marks) (length stores) (who .desk) (length out)) where
   abbrev its : Own
   its = ownAt (who .desk) p rows marks stores out
@@ -70,7 +71,6 @@ module _ (table : ℕ) (p : Place) (rows marks stores out : List ℕ) (who : Nam
 
   pub plan-shut : (why : Refusal) → g ≡ Shut why
       → plan p (says 0 (who .time) (O.Refused why)) rows marks stores out ≡ settledPlan table p rows marks stores out who a
-  unfolding gated
   plan-shut why h =
       back why
       ∙ ap (planOf (who .desk) rows marks stores)
@@ -78,19 +78,18 @@ module _ (table : ℕ) (p : Place) (rows marks stores out : List ℕ) (who : Nam
       (a its) why h)
 
   pub plan-through : g ≡ Through → planOf (who .desk) rows marks stores (a its) ≡ settledPlan table p rows marks stores out who a
-  unfolding gated
   plan-through h =
       let c = clear (desksOf marks) table (length rows) (length marks) (length stores) (who .desk) (length out) g f h in
       ap (planOf (who .desk) rows marks stores) (no _ _ (c .0) (no _ _ (c .1) refl))
 
 -- ---- a part
-module _ (table : ℕ) (before : Place) (rows marks stores out : List ℕ) (who : Name) (x : Arrival) (rest : List ℕ) (g : Gate) where
+module _ (table : ℕ) (before : Place) (rows marks stores out : List ℕ) (who : Sender) (x : Arrival) (rest : List ℕ) (g : Gate) where
   abbrev stored : Shares
   stored = storedShares (desksOf marks) (who .desk) marks
 
   -- of the part d that was cut, by the shares h that were heard
   abbrev takesOf : Shares → (d : List ℕ) → Own → After
-  takesOf h d s = partTaken h s (who .desk) (who .time) (x .used) (x .part) d
+  takesOf h d s = partAt h s (who .desk) (who .time) (x .used) (x .part) d
 
   abbrev takes : Own → After
   takes s = takesOf stored (partOfRest x rest) s
@@ -177,7 +176,7 @@ module _ (table : ℕ) (before : Place) (rows marks stores out : List ℕ) (who 
         ∙ back-is t r row′ marks′ out′ ∙ ap (planOf (who .desk) rows marks stores) e′ ∙ q
 
 -- ---- any other unit
-module _ (table : ℕ) (p : Place) (rows marks stores out : List ℕ) (who : Name) (r : Reading) (rest : List ℕ) (g : Gate)
+module _ (table : ℕ) (p : Place) (rows marks stores out : List ℕ) (who : Sender) (r : Reading) (rest : List ℕ) (g : Gate)
     (f : g ≡ gateOf (desksOf marks) table (length rows) (length marks) (length stores) (who .desk) (length out)) where
   abbrev passes : Own → After
   passes s = passed s (who .time) r rest

@@ -4,8 +4,8 @@ use asks::Arrival;
 use asks::Settled;
 use gate::Gate;
 use paper::Answer;
-use paper::Name;
 use paper::Outcome;
+use paper::Sender;
 use paper::limits::FINISHED_MOST;
 use paper::limits::HEAD_SIZE;
 use paper::limits::MARKS_EACH;
@@ -32,7 +32,7 @@ pub fn step(
     rows: &mut [u32],
     marks: &mut [u32],
     store_len: usize,
-    who: Name,
+    who: Sender,
     x: Arrival,
     rest: &[u8],
     out: &mut [u8],
@@ -46,11 +46,12 @@ pub fn step(
         (now (rows .entry)) (now (marks .entry)) stores (now (out .entry)) who x (now (rest .entry))))) ⌝ }
 {
     let n = gate::desks_of(marks);
+    let t = who.time;
     let g = gate::gate_of(n, table, rows, marks, store_len, who.desk, out);
     match g {
         Gate::Shut(why) => Settled {
             head: q,
-            answer: asks::says(0, who.time, Outcome::Refused(why)),
+            answer: asks::says(0, t, Outcome::Refused(why)),
         },
         Gate::Through => {
             let h = tally::shares(marks, n, who.desk);
@@ -58,7 +59,7 @@ pub fn step(
             let mark = HEAD_SIZE + MARKS_EACH * who.desk;
             let w = x.part;
             let d = octets::cut(rest, w.start, w.len);
-            let t = settle::take_part(
+            let s = settle::take_part(
                 h,
                 who.desk,
                 q,
@@ -68,14 +69,14 @@ pub fn step(
                 bytes,
                 &mut rows[row..row + FINISHED_MOST],
                 &mut marks[mark..mark + MARKS_EACH],
-                who.time,
+                t,
                 x,
                 d,
                 out,
             );
-            let u = t.head;
+            let u = s.head;
             tally::count(marks, who.desk, q.used, u.used);
-            t
+            s
         }
     }
 }
@@ -86,7 +87,7 @@ pub fn step_lost(
     rows: &mut [u32],
     marks: &mut [u32],
     store_len: usize,
-    who: Name,
+    who: Sender,
     x: Arrival,
     rest: &[u8],
     out: &mut [u8],
@@ -98,9 +99,10 @@ pub fn step_lost(
         (now (rest .entry))) ⌝ }
 {
     let n = gate::desks_of(marks);
+    let t = who.time;
     let g = gate::gate_of(n, table, rows, marks, store_len, who.desk, out);
     match g {
-        Gate::Shut(why) => asks::says(0, who.time, Outcome::Refused(why)),
+        Gate::Shut(why) => asks::says(0, t, Outcome::Refused(why)),
         Gate::Through => {
             let h = tally::shares(marks, n, who.desk);
             let row = FINISHED_MOST * who.desk;
@@ -112,7 +114,7 @@ pub fn step_lost(
                 who.desk,
                 &mut rows[row..row + FINISHED_MOST],
                 &mut marks[mark..mark + MARKS_EACH],
-                who.time,
+                t,
                 x,
                 d,
                 out,

@@ -107,26 +107,26 @@ fields-bare s =
     B x = refusalOf x ≡ 0
 
 -- the only refusals of a reading are 3, 4 and 17
-abbrev pub Known : Unit → Type 0
-Known (Refused r) = (r ≡ R.Frame) ⊎ ((r ≡ R.Fields) ⊎ (r ≡ R.IllFormed))
-Known End = Prim.Unit {0}
-Known (Skipped t) = Prim.Unit {0}
-Known (Whole w) = Prim.Unit {0}
-Known (Part w) = Prim.Unit {0}
-Known (Description w) = Prim.Unit {0}
+abbrev pub ByReader : Unit → Type 0
+ByReader (Refused r) = (r ≡ R.Frame) ⊎ ((r ≡ R.Fields) ⊎ (r ≡ R.IllFormed))
+ByReader End = Prim.Unit {0}
+ByReader (Skipped t) = Prim.Unit {0}
+ByReader (Whole w) = Prim.Unit {0}
+ByReader (Part w) = Prim.Unit {0}
+ByReader (Description w) = Prim.Unit {0}
 
 -- so none has another number
-pub other-number : (r : Refusal) (n : ℕ) → Known (Refused r) → n ≢ 3 → n ≢ 4 → n ≢ 17 → numberOf r ≢ n
+pub other-number : (r : Refusal) (n : ℕ) → ByReader (Refused r) → n ≢ 3 → n ≢ 4 → n ≢ 17 → numberOf r ≢ n
 other-number r n k a b c e =
     ⊎-elim (λ q. a (sym e ∙ ap numberOf q)) (λ w. ⊎-elim (λ q. b (sym e ∙ ap numberOf q)) (λ q. c (sym e ∙ ap numberOf q)) w) k
 
-fields-known : (s : List ℕ) (U TYPE LEN : ℕ) → Known (fieldsOf s U TYPE LEN)
+fields-by-reader : (s : List ℕ) (U TYPE LEN : ℕ) → ByReader (fieldsOf s U TYPE LEN)
 unfolding fieldsOf
-fields-known s U TYPE LEN =
-    each Known _ _ _ (λ q. tt) (λ q. each Known _ _ _ (λ q. tt) (λ q. each Known _ _ _ (λ q. tt) (λ q. each Known _ _ _ (λ q. tt) (λ q. each Known _ _ _ (λ q. tt) (λ q. tt)))))
+fields-by-reader s U TYPE LEN =
+    each ByReader _ _ _ (λ q. tt) (λ q. each ByReader _ _ _ (λ q. tt) (λ q. each ByReader _ _ _ (λ q. tt) (λ q. each ByReader _ _ _ (λ q. tt) (λ q. each ByReader _ _ _ (λ q. tt) (λ q. tt)))))
 
-pub reads-known : (s : List ℕ) → Known (readOf s .unit)
-reads-known s = each-unit Known s tt (inl refl) (inr (inl refl)) (inr (inr refl)) (λ m l f w. fields-known s _ _ _)
+pub read-by-reader : (s : List ℕ) → ByReader (readOf s .unit)
+read-by-reader s = each-unit ByReader s tt (inl refl) (inr (inl refl)) (inr (inr refl)) (λ m l f w. fields-by-reader s _ _ _)
 
 -- the one that has the number 17 is 17
 pub by-number : (s : List ℕ) → refusalOf (readOf s .unit) ≡ 17 → readOf s .unit ≡ Refused R.IllFormed

@@ -1,29 +1,35 @@
--- The twelve cases of document 01, 'Worked by hand', and those of requests 1 and 2 of document 02, as lists, and one statement over them:
+-- The twelve cases of document 01, 'Worked by hand', and those of requests 1 to 3 of document 02, as lists, and one statement over them:
 -- each holds of the definitions that the promises of set-up, receive, give-up, lookup and the writer cite. Assumes nothing.
 use Prim.Native.Nat.{ℕ}
 use native.Mathlib.Omega.{arith}
-use mathlib.Core.Path.{_≡_, refl, sym, subst}
+use mathlib.Core.Path.{_≡_, refl, sym, subst, _∙_}
+use mathlib.Core.Bool.{true, false, true≢false}
 use mathlib.Core.Logic.{_⊎_, inl, inr}
 use mathlib.Core.List.{List, [], _∷_, _++_, map, flatten}
 use lib.Count.{ones}
-use lib.ListN.{replicate}
+use lib.ListN.{replicate, drop}
 use lib.Seq.{sets}
 use Rattle.laws.specs.Rows.{_⇒_⁏_, _<?_, _=?_, or-none}
 use Rattle.laws.specs.Region.{part}
 use Rattle.paper.specs.Limits.{headSize}
 use Rattle.paper.specs.declared.Refusal.the-variants as R
+use Rattle.paper.specs.declared.Time.the-variants.{Known, Unknown}
 use Rattle.paper.specs.declared.Outcome.{Outcome}
 use Rattle.paper.specs.declared.Outcome.the-variants as O
 use Rattle.text.specs.Chart.{chart, within, follows, charted, unitAt, paired}
 use Rattle.text.specs.Unicode.{character, wellFormed, wellWithin, reach, reachWithin}
-use Rattle.unit.specs.Layout.{readOf, broken, judged, fieldsOf, least, badPart, badWhole, textJudged, illText}
+use Rattle.unit.specs.Layout.{readOf, broken, judged, fieldsOf, least, badPart, badWhole, badDescription, textJudged, illText}
 use Rattle.unit.specs.Head.{partHead}
 use Rattle.joining.specs.Joining as J
 use Rattle.sample.specs.Place.{bare, outside, has, agrees, stands, repeats, oversize, toldOf, telling, laid, kept, missing, piecesIn}
 use Rattle.sample.specs.Place.{piecesOf}
+use Rattle.style.specs.Store.{inWindow, held, repeated, noted}
+use Rattle.style.specs.Store as S
 use Rattle.finished.specs.Times.{among, markedRow, markedUsed}
 use Rattle.desk.specs.declared.GivenUp.the-variants as G
-use Rattle.desk.specs.Desk.{says, facts, laterPart, sampleOf, conflicts, six, usedUp, wholeTaken, completed, joining, received, givenUp}
+use Rattle.desk.specs.Effects.{asksPart}
+use Rattle.desk.specs.Desk.{says, facts, later, laterPart, sampleOf, conflicts, six, usedUp, wholeTaken, completed, joining, received}
+use Rattle.desk.specs.Desk.{descriptionTaken, givenUp}
 use Rattle.writer.specs.declared.Written.{Written}
 use Rattle.writer.specs.declared.Written.the-variants as W
 use Rattle.writer.specs.Cut.{cuts, cutsWithin, modified, pieces}
@@ -33,8 +39,10 @@ use Rattle.memory.specs.declared.Started.the-variants.{Ready}
 use Rattle.memory.specs.Relay.{Tables, standsAt, stepped, commonStepped, improper, stranger, short, ownMarks, setUp, ordered, receivedAmong}
 use Rattle.memory.specs.Relay.{yielded, givenUpAmong}
 use Rattle.good.specs.Good.{ready-exactly}
-use Rattle.good.specs.Fresh.{Exact, exactTables, set-up-exact}
+use Rattle.good.specs.Fresh.{freshView, Exact, exactTables, set-up-exact}
 use Rattle.peace.specs.Run.{Call, receive, give-up, Got, answered, released, next, run}
+use Rattle.peace.specs.Alone.{alone, Frugal}
+use Rattle.peace.specs.Peace.{as-fresh}
 use Rattle.worked.specs.Descriptions.{blankOutput, describes, describes-gets, Case9, describing, then-74, then-75}
 
 -- ---- what a case says
@@ -74,7 +82,7 @@ All (c ∷ cs) = Holds c × All cs
 
 -- ---- the calls
 abbrev at : (desk time : ℕ) → List ℕ → Call
-at desk time rest = receive desk time rest blankOutput
+at desk time rest = receive desk (Known time) rest blankOutput
 
 -- a unit of case 7 at each of these times
 abbrev part1 : List ℕ
@@ -91,10 +99,10 @@ opens desk times = map (λ (t : ℕ). at desk t part1) times
 
 -- ---- the answers: with the output as it was, or with a sample at its front
 abbrev hears : (used next : ℕ) → Outcome → Got
-hears used next x = answered (says used next x) blankOutput
+hears used next x = answered (says used (Known next) x) blankOutput
 
 abbrev handed : (used next : ℕ) → Outcome → List ℕ → Got
-handed used next x bytes = answered (says used next x) (sets blankOutput 0 bytes)
+handed used next x bytes = answered (says used (Known next) x) (sets blankOutput 0 bytes)
 
 abbrev keeps : (times : List ℕ) → List Got
 keeps times = map (λ (t : ℕ). hears 12 t (O.Kept 1)) times
@@ -220,7 +228,48 @@ case-stored =
     ∷ at 0 3 (0x03 ∷ 0x00 ∷ 0x07 ∷ 0x22 ∷ 0x00 ∷ 0x00 ∷ 0x64 ∷ 0xFF ∷ []) ∷ give-up 0 2 ∷ []))
     (two 0 0 0 ∷ two 0 1 0 ∷ two 0 2 0 ∷ two 1 3 0 ∷ two 0 2 0 ∷ two 0 2 0 ∷ two 0 2 0 ∷ two 1 3 0 ∷ two 0 2 0 ∷ two 0 1 0 ∷ [])
 
--- ---- the cases of document 01, and those of requests 1 and 2
+-- ---- request 3 of document 02
+-- a line of one letter whose SDUR is 0; and what stands behind it in its payload: a sample of SDUR 5, a description, a TYPE 6, one byte
+abbrev line : List ℕ
+line = 0x01 ∷ 0x00 ∷ 0x09 ∷ 0x80 ∷ 0x00 ∷ 0x00 ∷ 0x00 ∷ 0x00 ∷ 0x01 ∷ 0x41 ∷ []
+
+abbrev behind : List ℕ
+behind =
+    0x01 ∷ 0x00 ∷ 0x08 ∷ 0x80 ∷ 0x00 ∷ 0x00 ∷ 0x05 ∷ 0x00 ∷ 0x00 ∷ 0x05 ∷ 0x00 ∷ 0x04 ∷ 0x01 ∷ 0x61 ∷ 0x06 ∷ 0x00 ∷ 0x02 ∷ 0x01 ∷ []
+
+-- at an unknown time: what is left behind so many bytes of these, and an answer that says the time is unknown
+abbrev lost : (bytes : ℕ) → Call
+lost bytes = receive 0 Unknown (drop bytes behind) blankOutput
+
+abbrev unknown : (used : ℕ) → Outcome → Got
+unknown used x = answered (says used Unknown x) blankOutput
+
+-- a sample whose string is half a letter, and the last of two parts, of SDUR 0
+abbrev half : List ℕ
+half = 0x01 ∷ 0x00 ∷ 0x09 ∷ 0x80 ∷ 0x00 ∷ 0x00 ∷ 0x05 ∷ 0x00 ∷ 0x01 ∷ 0xC3 ∷ []
+
+abbrev last : List ℕ
+last = 0x02 ∷ 0x00 ∷ 0x0A ∷ 0x22 ∷ 0x00 ∷ 0x00 ∷ 0x00 ∷ 0x80 ∷ 0x00 ∷ 0x02 ∷ 0x42 ∷ []
+
+-- the time behind the line is unknown: the sample there is 18, and all else as ever, 17 too. In a second payload, of the same time, it is
+-- late, and the time unknown again; and so it is behind a last part that is kept
+abbrev live-calls : List Call
+live-calls =
+    at 0 0 (line ++ behind) ∷ lost 0 ∷ lost 9 ∷ lost 14 ∷ lost 17 ∷ lost 18 ∷ receive 0 Unknown half blankOutput ∷ at 0 0 line
+    ∷ at 0 9 last ∷ []
+
+abbrev live-gets : List Got
+live-gets =
+    answered (says 10 Unknown (O.Whole (facts 0 0 128 0 1 1))) (sets blankOutput 0 (0x41 ∷ [])) ∷ unknown 9 (O.Refused R.Untimed)
+    ∷ unknown 5 O.Described ∷ unknown 3 (O.Skipped 6) ∷ unknown 1 (O.Refused R.Frame) ∷ unknown 0 O.End
+    ∷ unknown 10 (O.Refused R.IllFormed)
+    ∷ unknown 10 (O.Refused R.Late) ∷ unknown 11 (O.Kept 1)
+    ∷ []
+
+abbrev case-live : Case
+case-live = plays 1 live-calls live-gets
+
+-- ---- the cases of document 01, and those of requests 1, 2 and 3
 abbrev pub cases-01 : List Case
 cases-01 =
     case-1 ∷ case-2 ∷ case-3 ∷ case-4 ∷ case-5 ∷ case-6 ∷ case-7-8 ∷ case-8-7
@@ -235,6 +284,9 @@ cases-17 = case-17-long ∷ case-17-halves ∷ case-17-late ∷ case-17-other �
 
 abbrev pub cases-stored : List Case
 cases-stored = case-stored ∷ []
+
+abbrev pub cases-live : List Case
+cases-live = case-live ∷ []
 
 -- ---- what the rules compute to in the memory that set-up makes
 abbrev gets : (desks : ℕ) → List Call → List Got
@@ -259,7 +311,7 @@ so (writes many M k w out) (inl e) = e
 -- cases 1 and 5, which no relay plays that refuses everything or has a constant answer
 one-and-five : Computes case-1 × Computes case-5
 unfolding _⇒_⁏_ _<?_ _=?_ readOf broken judged textJudged illText fieldsOf least badPart badWhole bare outside has agrees stands repeats
-    oversize toldOf telling laid kept missing piecesIn piecesOf among laterPart sampleOf conflicts six usedUp wholeTaken completed
+    oversize toldOf telling laid kept missing piecesIn piecesOf among later laterPart sampleOf conflicts six usedUp wholeTaken completed
     joining received standsAt improper stranger short ownMarks ordered receivedAmong ones markedRow markedUsed J.laters J.going
     J.ordered J.sound flatten partHead written count uncut unwritable illFormed unsized wellFormed wellWithin long partUnit
     payloadData payloadUnit pieces modified cuts cutsWithin reach reachWithin character chart within follows charted
@@ -270,6 +322,21 @@ case-9-holds : (b : ℕ) (ten : List ℕ) → Case9 b ten → Holds (plays 1 (de
 unfolding _⇒_⁏_ _=?_
 case-9-holds b ten c = λ s p q. describing b ten c 1 0 (omega arith) s p (describes 0 b) refl
 
+-- the case of request 3 by the law of a frugal desk, for behind the description the length of the stores is not computed
+live-alone : (alone freshView live-calls ≡ live-gets) × Frugal freshView live-calls
+unfolding _⇒_⁏_ _<?_ _=?_ readOf broken judged textJudged illText fieldsOf least badWhole badPart badDescription bare outside has agrees
+    stands repeats oversize toldOf telling laid kept missing piecesIn piecesOf among later laterPart sampleOf conflicts six usedUp
+    wholeTaken completed joining asksPart descriptionTaken noted S.improper held inWindow repeated received ordered ones markedRow markedUsed
+    wellFormed wellWithin character chart within follows charted
+live-alone = (refl, (idle, (idle, (idle, (idle, (idle, (idle, (idle, (idle, (λ e. omega arith, tt))))))))))
+  where
+    idle : {A : Type 0} → false ≡ true → A
+    idle e = absurd (true≢false (sym e))
+
+live-holds : Holds case-live
+unfolding _⇒_⁏_ _=?_
+live-holds = λ s p q. as-fresh 1 0 (omega arith) s p live-calls live-calls refl (live-alone .1) ∙ live-alone .0
+
 abbrev AllHold : List Case → Type 0
 AllHold [] = Unit {0}
 AllHold (c ∷ cs) = (Computes c ⊎ Holds c) × AllHold cs
@@ -278,9 +345,9 @@ all-so : (cs : List Case) → AllHold cs → All cs
 all-so [] e = tt
 all-so (c ∷ cs) e = (so c (e .0), all-so cs (e .1))
 
-each-holds : AllHold cases-01 × (AllHold cases-17 × AllHold cases-stored)
+each-holds : AllHold cases-01 × (AllHold cases-17 × (AllHold cases-stored × AllHold cases-live))
 unfolding _⇒_⁏_ _<?_ _=?_ readOf broken judged textJudged illText fieldsOf least badPart badWhole bare outside has agrees stands
-    repeats oversize toldOf telling laid kept missing piecesIn piecesOf among laterPart sampleOf conflicts six usedUp wholeTaken
+    repeats oversize toldOf telling laid kept missing piecesIn piecesOf among later laterPart sampleOf conflicts six usedUp wholeTaken
     completed joining received standsAt stepped commonStepped improper stranger short ownMarks ordered receivedAmong ones markedRow
     markedUsed J.laters J.going J.ordered J.sound flatten partHead written count uncut unwritable illFormed unsized wellFormed
     wellWithin long partUnit payloadData payloadUnit pieces modified cuts cutsWithin reach reachWithin character chart within follows
@@ -317,8 +384,11 @@ each-holds = (
       ),
     ),
   ),
-  ((inl refl, (inl refl, (inl refl, (inl refl, (inl refl, tt))))), (inl refl, tt)),
+  ((inl refl, (inl refl, (inl refl, (inl refl, (inl refl, tt))))), ((inl refl, tt), (inr live-holds, tt))),
 )
 
-pub worked : All cases-01 × (All cases-17 × All cases-stored)
-worked = (all-so cases-01 (each-holds .0), (all-so cases-17 (each-holds .1 .0), all-so cases-stored (each-holds .1 .1)))
+pub worked : All cases-01 × (All cases-17 × (All cases-stored × All cases-live))
+worked = (
+  all-so cases-01 (each-holds .0),
+  (all-so cases-17 (each-holds .1 .0), (all-so cases-stored (each-holds .1 .1 .0), all-so cases-live (each-holds .1 .1 .1))),
+)

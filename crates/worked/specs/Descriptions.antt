@@ -3,7 +3,7 @@
 -- window tell, for every store. Assumes nothing.
 use Prim.Native.Nat.{ℕ, _+_, _-_, _*_, _≤_, _<_}
 use native.Mathlib.Omega.{arith}
-use mathlib.Core.Path.{_≡_, refl, sym, ap, ap₂, subst, _∙_}
+use mathlib.Core.Path.{_≡_, refl, sym, ap, ap₂, _∙_}
 use mathlib.Core.Bool.{Bool, true, false, true≢false}
 use mathlib.Core.Logic.{inl, ⊎-elim}
 use mathlib.Core.List.{List, [], _∷_}
@@ -11,6 +11,7 @@ use lib.ListN.{length, replicate, length-replicate}
 use Rattle.laws.specs.Rows.{_⇒_⁏_, _<?_, _=?_, each, no, ge}
 use Rattle.laws.specs.Table.{bit}
 use Rattle.paper.specs.Limits.{sampleMost, inBand, window, recordSize, finishedMost, storeSize}
+use Rattle.paper.specs.declared.Time.the-variants.{Known}
 use Rattle.paper.specs.declared.Outcome.the-variants as O
 use Rattle.text.specs.Unicode.{wellFormed, wellWithin}
 use Rattle.unit.specs.Layout.{description, reading, readOf, broken, judged, fieldsOf, least, badDescription, textJudged, illText}
@@ -26,11 +27,11 @@ use Rattle.desk.specs.declared.Shares.{Shares}
 use Rattle.desk.specs.Desk.{After, says, descriptionTaken, received}
 use Rattle.memory.specs.declared.Started.the-variants.{Ready}
 use Rattle.memory.specs.Relay.{Tables, setUp, ordered}
-use Rattle.good.specs.Good.{set-up-good}
-use Rattle.good.specs.View.{View, view, ownIn, seenAfter, receives}
-use Rattle.good.specs.Fresh.{set-up-view}
+use Rattle.good.specs.View.{View, ownIn, seenAfter, receives}
+use Rattle.good.specs.Fresh.{freshView}
 use Rattle.peace.specs.Run.{Call, receive, lookup, Got, answered, shown, run, to, only}
-use Rattle.peace.specs.Alone.{lone, own-reaches, own-view, alone, Frugal, as-frugal}
+use Rattle.peace.specs.Alone.{lone, own-reaches, own-view, alone, Frugal}
+use Rattle.peace.specs.Peace.{as-fresh}
 
 -- ---- the calls and what they get
 -- the output lent
@@ -43,11 +44,15 @@ unit5 SIDX byte = 0x05 ∷ 0x00 ∷ 0x04 ∷ SIDX ∷ byte ∷ []
 
 -- 10 is described and then b, and both are looked up, with no style book
 abbrev pub describes : (desk b : ℕ) → List Call
-describes desk b = receive desk 0 (unit5 10 0x41) blankOutput ∷ receive desk 0 (unit5 b 0x42) blankOutput ∷ lookup desk 10 [] ∷ lookup desk b [] ∷ []
+describes desk b =
+    receive desk (Known 0) (unit5 10 0x41) blankOutput ∷ receive desk (Known 0) (unit5 b 0x42) blankOutput
+    ∷ lookup desk 10 [] ∷ lookup desk b [] ∷ []
 
 -- both are described; then 10 shows this, and b its byte
 abbrev pub describes-gets : (ten : List ℕ) → List Got
-describes-gets ten = answered (says 5 0 O.Described) blankOutput ∷ answered (says 5 0 O.Described) blankOutput ∷ shown ten ∷ shown (0x42 ∷ []) ∷ []
+describes-gets ten =
+    answered (says 5 (Known 0) O.Described) blankOutput ∷ answered (says 5 (Known 0) O.Described) blankOutput
+    ∷ shown ten ∷ shown (0x42 ∷ []) ∷ []
 
 -- ---- the desk alone
 -- what it sees, whatever it has open: of its marks the newest value, and its store
@@ -60,25 +65,26 @@ room = ge _ _ (omega (arith, length-replicate {A = ℕ} sampleMost 0))
 module _ (desk SIDX byte : ℕ) (e : readOf (unit5 SIDX byte) ≡ reading 5 (description SIDX 1)) where
   -- the unit is noted, whatever the shares say
   noting : (h : Shares) (v : View)
-      → receives h v desk 0 (unit5 SIDX byte) blankOutput ≡ descriptionTaken (ownIn v 0 blankOutput) 0 5 (record { sidx = SIDX; start = 4; len = 1 }) (byte ∷ [])
+      → receives h v desk (Known 0) (unit5 SIDX byte) blankOutput
+      ≡ descriptionTaken (ownIn v (Known 0) blankOutput) (Known 0) 5 (record { sidx = SIDX; start = 4; len = 1 }) (byte ∷ [])
   unfolding ordered received
   noting h v = sym (no _ _ refl (no _ _ room (rw e)))
 
   -- and asks for no place
-  unasked : (v : View) → own-reaches v (receive desk 0 (unit5 SIDX byte) blankOutput) ≡ false
+  unasked : (v : View) → own-reaches v (receive desk (Known 0) (unit5 SIDX byte) blankOutput) ≡ false
   unasked v = each (λ (b : Bool). b ≡ false) _ _ _ (λ q. refl) (λ q. rw e)
 
   -- the call, and what the desk sees then
   hears-one : (at : ℕ → Place) (opens : ℕ) (row : List ℕ) (newest : ℕ) (store : List ℕ) (cs : List Call)
-      → alone (sees at opens row newest store) (receive desk 0 (unit5 SIDX byte) blankOutput ∷ cs)
-      ≡ answered (says 5 0 (noted store newest SIDX (byte ∷ []) .answer .outcome)) blankOutput
+      → alone (sees at opens row newest store) (receive desk (Known 0) (unit5 SIDX byte) blankOutput ∷ cs)
+      ≡ answered (says 5 (Known 0) (noted store newest SIDX (byte ∷ []) .answer .outcome)) blankOutput
       ∷ alone
       (sees (λ t. t =? 0 ⇒ at 0 ⁏ at t) (opens + bit (at 0 .used) - bit (at 0 .used)) row (noted store newest SIDX (byte ∷ []) .answer .newest)
       (noted store newest SIDX (byte ∷ []) .store)) cs
   unfolding descriptionTaken
   hears-one at opens row newest store cs =
       let v = sees at opens row newest store in
-      ap (λ (a : After). answered (a .answer) (a .own .out) ∷ alone (seenAfter v 0 (a .own)) cs) (noting (lone v) v)
+      ap (λ (a : After). answered (a .answer) (a .own .out) ∷ alone (seenAfter v (Known 0) (a .own)) cs) (noting (lone v) v)
 
 reads-ten : readOf (unit5 10 0x41) ≡ reading 5 (description 10 1)
 unfolding readOf broken judged textJudged illText wellFormed wellWithin fieldsOf least badDescription _⇒_⁏_ _<?_ _=?_
@@ -145,19 +151,18 @@ module _ (store : List ℕ) (long : window * recordSize ≤ length store) (b : �
       → (at : ℕ → Place) (opens : ℕ) (row : List ℕ) → alone (sees at opens row inBand store) (describes desk b) ≡ describes-gets ten
   gets-alone desk reads-b ten shows-ten at opens row =
       let looks : List Call = lookup desk 10 [] ∷ lookup desk b [] ∷ [] in
-      hears-one desk 10 0x41 reads-ten at opens row inBand store (receive desk 0 (unit5 b 0x42) blankOutput ∷ looks)
-      ∙ ap₂ (λ (x : Got) (l : List Got). x ∷ l) (ap (λ (a : Noted). answered (says 5 0 (a .outcome)) blankOutput) first)
+      hears-one desk 10 0x41 reads-ten at opens row inBand store (receive desk (Known 0) (unit5 b 0x42) blankOutput ∷ looks)
+      ∙ ap₂ (λ (x : Got) (l : List Got). x ∷ l) (ap (λ (a : Noted). answered (says 5 (Known 0) (a .outcome)) blankOutput) first)
       (hears-one desk b 0x42 reads-b (λ t. t =? 0 ⇒ at 0 ⁏ at t) (opens + bit (at 0 .used) - bit (at 0 .used)) row (newest₁ store)
       (store₁ store) looks
-      ∙ ap₂ (λ (x : Got) (l : List Got). x ∷ l) (ap (λ (a : Noted). answered (says 5 0 (a .outcome)) blankOutput) second)
+      ∙ ap₂ (λ (x : Got) (l : List Got). x ∷ l) (ap (λ (a : Noted). answered (says 5 (Known 0) (a .outcome)) blankOutput) second)
       (ap₂ (λ (x y : List ℕ). shown x ∷ shown y ∷ []) shows-ten shows-b))
 
--- ---- among all others, from set-up
 frugal : (desk b : ℕ) → readOf (unit5 b 0x42) ≡ reading 5 (description b 1) → (v : View) → Frugal v (describes desk b)
 frugal desk b reads-b v = (
   λ k. absurd (true≢false (sym k ∙ unasked desk 10 0x41 reads-ten v)),
   (
-    λ k. absurd (true≢false (sym k ∙ unasked desk b 0x42 reads-b (own-view v (receive desk 0 (unit5 10 0x41) blankOutput)))),
+    λ k. absurd (true≢false (sym k ∙ unasked desk b 0x42 reads-b (own-view v (receive desk (Known 0) (unit5 10 0x41) blankOutput)))),
     (λ k. absurd (true≢false (sym k)), (λ k. absurd (true≢false (sym k)), tt)),
   ),
 )
@@ -176,10 +181,8 @@ pub record Case9 (b : ℕ) (ten : List ℕ) : Type 0 where
 pub describing : (b : ℕ) (ten : List ℕ) → Case9 b ten → (n desk : ℕ) → desk < n → (s : Tables) → setUp n s .answer ≡ Ready
     → (xs : List Call) → only desk xs ≡ describes desk b → to desk (run (setUp n s .tables) xs) ≡ describes-gets ten
 describing b ten c n desk h s e xs q =
-    let t = setUp n s .tables in
-    let f : Frugal (view n desk t) (only desk xs) = subst (Frugal (view n desk t)) (sym q) (frugal desk b (c .reads) (view n desk t)) in
     let l : window * recordSize ≤ length {A = ℕ} (replicate storeSize 0) = fresh-long storeSize (omega arith) in
-    as-frugal n desk h xs t (set-up-good n s e) f ∙ ap₂ alone (set-up-view n desk s e h) q
+    as-fresh n desk h s e xs (describes desk b) q (frugal desk b (c .reads) freshView)
     ∙ gets-alone (replicate storeSize 0) l b (c .low) (c .other) desk (c .reads) ten (c .ten-shows (replicate storeSize 0) l) (λ time. closed) 0
     (replicate finishedMost 0)
 

@@ -5,6 +5,7 @@ use paper::Answer;
 use paper::Name;
 use paper::Outcome;
 use paper::Refusal;
+use paper::Sender;
 use paper::limits::FINISHED_MOST;
 use paper::limits::HEAD_SIZE;
 use paper::limits::MARKS_EACH;
@@ -15,14 +16,14 @@ ghost use Rattle.laws.specs.Rows.{_<?_};
 ghost use Rattle.sample.specs.declared.Place.{Place};
 ghost use Rattle.steps.specs.Plan.{plan, passPlanned, yield, yielding, placeAfter};
 
-// Settles a call with a unit that is no part: of the places it hears only whether the sample of the name is open.
+// Settles a call with a unit that is no part: of the places it hears only whether the sender's sample is open.
 pub fn pass_step(
     table: usize,
     is_open: bool,
     rows: &mut [u32],
     marks: &mut [u32],
     stores: &mut [u8],
-    who: Name,
+    who: Sender,
     r: Reading,
     rest: &[u8],
     out: &mut [u8],
@@ -33,9 +34,10 @@ pub fn pass_step(
         (now (rest .entry))) ⌝ }
 {
     let n = gate::desks_of(marks);
+    let t = who.time;
     let g = gate::gate_of(n, table, rows, marks, stores.len(), who.desk, out);
     match g {
-        Gate::Shut(why) => asks::says(0, who.time, Outcome::Refused(why)),
+        Gate::Shut(why) => asks::says(0, t, Outcome::Refused(why)),
         Gate::Through => {
             let row = FINISHED_MOST * who.desk;
             let mark = HEAD_SIZE + MARKS_EACH * who.desk;
@@ -45,7 +47,7 @@ pub fn pass_step(
                 &mut rows[row..row + FINISHED_MOST],
                 &mut marks[mark..mark + MARKS_EACH],
                 &mut stores[store..store + STORE_SIZE],
-                who.time,
+                t,
                 r,
                 rest,
                 out,

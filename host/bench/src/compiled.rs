@@ -3,8 +3,8 @@
 use crate::hears::Hears;
 use crate::library::{Calls, Library};
 
-/// How many numbers an answer fills.
-const ROW: usize = 9;
+/// How many numbers an answer fills, at most.
+const ROW: usize = 10;
 
 /// Kinds of outcomes in a row.
 const WHOLE: u64 = 1;
@@ -56,8 +56,16 @@ impl Compiled {
         relay
     }
 
-    /// What the library's receive answers.
-    pub fn receive(&mut self, desk: usize, time: u32, unit: &[u8], out: &mut [u8]) -> usize {
+    /// What the library's receive answers. An old one, to which every time is known, gets 0 for an
+    /// unknown one.
+    pub fn receive(
+        &mut self,
+        desk: usize,
+        time: Option<u32>,
+        unit: &[u8],
+        out: &mut [u8],
+    ) -> usize {
+        let (known, time) = (usize::from(time.is_some()), time.unwrap_or_default());
         let (places, places_len) = (self.places.as_mut_ptr(), self.places_len);
         let (rows, rows_len) = (self.rows.as_mut_ptr(), self.rows.len());
         let (marks, marks_len) = (self.marks.as_mut_ptr(), self.marks.len());
@@ -69,6 +77,10 @@ impl Compiled {
         unsafe {
             match self.calls {
                 Calls::Now(receive, _) => receive(
+                    places, places_len, rows, rows_len, marks, marks_len, stores, stores_len, desk,
+                    known, time, rest, rest_len, out, out_len, row, ROW,
+                ),
+                Calls::Timed(receive, _) => receive(
                     places, places_len, rows, rows_len, marks, marks_len, stores, stores_len, desk,
                     time, rest, rest_len, out, out_len, row, ROW,
                 ),
@@ -88,7 +100,7 @@ impl Compiled {
         // SAFETY: each pointer goes with its own vector's length, and set-up made the places.
         unsafe {
             match self.calls {
-                Calls::Now(_, give_up) => give_up(
+                Calls::Now(_, give_up) | Calls::Timed(_, give_up) => give_up(
                     places, places_len, rows, rows_len, marks, marks_len, desk, time,
                 ),
                 Calls::WithDesks(_, give_up) => give_up(
@@ -100,11 +112,12 @@ impl Compiled {
 }
 
 impl Hears for Compiled {
-    fn hear(&mut self, desk: usize, time: u32, unit: &[u8], out: &mut [u8]) -> usize {
+    fn hear(&mut self, desk: usize, time: Option<u32>, unit: &[u8], out: &mut [u8]) -> usize {
         let used = self.receive(desk, time, unit, out);
-        used + match self.row[2] {
-            WHOLE | JOINED => 1000 * self.row[8] as usize,
-            REFUSED => 100 * self.row[3] as usize,
+        let kind = self.calls.kind();
+        used + match self.row[kind] {
+            WHOLE | JOINED => 1000 * self.row[kind + 6] as usize,
+            REFUSED => 100 * self.row[kind + 1] as usize,
             _ => 0,
         }
     }

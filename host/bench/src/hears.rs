@@ -4,11 +4,11 @@ use std::hint::black_box;
 
 /// Something that hears units; answers a number that tells outcomes apart.
 pub trait Hears {
-    fn hear(&mut self, desk: usize, time: u32, unit: &[u8], out: &mut [u8]) -> usize;
+    fn hear(&mut self, desk: usize, time: Option<u32>, unit: &[u8], out: &mut [u8]) -> usize;
 }
 
 impl Hears for second::Second {
-    fn hear(&mut self, desk: usize, time: u32, unit: &[u8], out: &mut [u8]) -> usize {
+    fn hear(&mut self, desk: usize, time: Option<u32>, unit: &[u8], out: &mut [u8]) -> usize {
         use second::Outcome::*;
         let answer = self.receive(desk, time, unit, out);
         answer.used
@@ -21,7 +21,7 @@ impl Hears for second::Second {
 }
 
 impl Hears for rival::Rival {
-    fn hear(&mut self, desk: usize, time: u32, unit: &[u8], out: &mut [u8]) -> usize {
+    fn hear(&mut self, desk: usize, time: Option<u32>, unit: &[u8], out: &mut [u8]) -> usize {
         use rival::Outcome::*;
         let answer = self.receive(desk, time, unit, out);
         answer.used
@@ -37,7 +37,7 @@ impl Hears for rival::Rival {
 pub struct Copied;
 
 impl Hears for Copied {
-    fn hear(&mut self, _: usize, _: u32, unit: &[u8], out: &mut [u8]) -> usize {
+    fn hear(&mut self, _: usize, _: Option<u32>, unit: &[u8], out: &mut [u8]) -> usize {
         out[..unit.len()].copy_from_slice(unit);
         black_box(out);
         unit.len()
@@ -48,7 +48,7 @@ impl Hears for Copied {
 pub struct Decoded;
 
 impl Hears for Decoded {
-    fn hear(&mut self, _: usize, _: u32, unit: &[u8], _: &mut [u8]) -> usize {
+    fn hear(&mut self, _: usize, _: Option<u32>, unit: &[u8], _: &mut [u8]) -> usize {
         let u = usize::from(unit[0] >> 7);
         usize::from(black_box(second::is_well_formed(u, string(unit))))
     }
@@ -58,7 +58,7 @@ impl Hears for Decoded {
 pub struct CutOut;
 
 impl Hears for CutOut {
-    fn hear(&mut self, _: usize, _: u32, unit: &[u8], _: &mut [u8]) -> usize {
+    fn hear(&mut self, _: usize, _: Option<u32>, unit: &[u8], _: &mut [u8]) -> usize {
         let u = usize::from(unit[0] >> 7);
         let (u, string) = black_box((u, string(unit)));
         u + string.len()

@@ -8,6 +8,8 @@ use std::path::{Path, PathBuf};
 use std::process::Command;
 use std::{env, fs, process};
 
+pub type Length = unsafe extern "C" fn() -> usize;
+
 pub type Count = unsafe extern "C" fn(usize) -> usize;
 
 type SetUp = unsafe extern "C" fn(
@@ -32,6 +34,7 @@ pub type Receive = unsafe extern "C" fn(
     *mut u8,
     usize,
     usize,
+    usize,
     u32,
     *const u8,
     usize,
@@ -43,6 +46,26 @@ pub type Receive = unsafe extern "C" fn(
 
 pub type GiveUp =
     unsafe extern "C" fn(*mut u64, usize, *mut u32, usize, *mut u32, usize, usize, u32) -> usize;
+
+/// As it was while every running time was known.
+pub type ReceiveTimed = unsafe extern "C" fn(
+    *mut u64,
+    usize,
+    *mut u32,
+    usize,
+    *mut u32,
+    usize,
+    *mut u8,
+    usize,
+    usize,
+    u32,
+    *const u8,
+    usize,
+    *mut u8,
+    usize,
+    *mut u64,
+    usize,
+) -> usize;
 
 /// As it was while every call took the number of desks.
 pub type ReceiveFor = unsafe extern "C" fn(
@@ -84,16 +107,28 @@ pub type WellFormed = unsafe extern "C" fn(usize, *const u8, usize) -> bool;
 /// The calls on a relay that was set up.
 #[derive(Clone, Copy)]
 pub enum Calls {
-    /// The number of desks stands in the memory.
+    /// The running time may be unknown.
     Now(Receive, GiveUp),
-    /// Every call takes the number of desks.
+    /// Every running time is known; the number of desks stands in the memory.
+    Timed(ReceiveTimed, GiveUp),
+    /// Every running time is known, and every call takes the number of desks.
     WithDesks(ReceiveFor, GiveUpFor),
+}
+
+impl Calls {
+    /// Where the kind of an outcome stands in a row; behind it stand its numbers.
+    pub fn kind(&self) -> usize {
+        match self {
+            Calls::Now(..) => 3,
+            Calls::Timed(..) | Calls::WithDesks(..) => 2,
+        }
+    }
 }
 
 /// The functions that are measured, and those that tell what memory they need.
 #[derive(Clone, Copy)]
 pub struct Library {
-    pub place_size: unsafe extern "C" fn() -> usize,
+    pub place_size: Length,
     pub places: Count,
     pub rows: Count,
     pub marks: Count,
@@ -106,7 +141,7 @@ pub struct Library {
 }
 
 mod linked {
-    use super::{Character, Count, GiveUp, Receive, SetUp, WellFormed};
+    use super::{Character, Count, GiveUp, Length, Receive, SetUp, WellFormed};
 
     macro_rules! linked {
         ($($constant:ident: $kind:ty = $name:ident($($arg:ident: $of:ty),*) -> $answer:ty;)*) => {
@@ -116,7 +151,7 @@ mod linked {
     }
 
     linked! {
-        PLACE_SIZE: unsafe extern "C" fn() -> usize = spindlefig_place_size() -> usize;
+        PLACE_SIZE: Length = spindlefig_place_size() -> usize;
         PLACES: Count = spindlefig_places(n: usize) -> usize;
         ROWS: Count = spindlefig_rows(n: usize) -> usize;
         MARKS: Count = spindlefig_marks(n: usize) -> usize;
@@ -126,7 +161,7 @@ mod linked {
             stores: *mut u8, stores_len: usize) -> usize;
         RECEIVE: Receive = spindlefig_receive(places: *mut u64, places_len: usize,
             rows: *mut u32, rows_len: usize, marks: *mut u32, marks_len: usize,
-            stores: *mut u8, stores_len: usize, desk: usize, time: u32,
+            stores: *mut u8, stores_len: usize, desk: usize, known: usize, time: u32,
             rest: *const u8, rest_len: usize, out: *mut u8, out_len: usize,
             row: *mut u64, row_len: usize) -> usize;
         GIVE_UP: GiveUp = spindlefig_give_up(places: *mut u64, places_len: usize,
@@ -160,8 +195,7 @@ impl Library {
         }
     }
 
-    /// A relay's static library (`.a`) or shared object, from now or from before the number of desks
-    /// stood in the memory.
+    /// A relay's static library (`.a`) or shared object, of any version of the calls.
     pub fn old(path: &Path) -> Result<Library, String> {
         if path.extension() != Some(OsStr::new("a")) {
             return load(path);
@@ -204,46 +238,40 @@ fn load(path: &Path) -> Result<Library, String> {
     if library.is_null() {
         return Err(format!("{} cannot be loaded", full.display()));
     }
-    // SAFETY: these functions have had these types in every version of the library.
-    let (place_size, places, rows, marks, stores, set_up, character) = unsafe {
-        (
-            symbol(library, c"spindlefig_place_size")?,
-            symbol(library, c"spindlefig_places")?,
-            symbol(library, c"spindlefig_rows")?,
-            symbol::<Count>(library, c"spindlefig_marks")?,
-            symbol(library, c"spindlefig_stores")?,
-            symbol(library, c"spindlefig_set_up")?,
-            symbol(library, c"spindlefig_character")?,
-        )
-    };
-    // SAFETY: where the library has this function, it has this type.
-    let well_formed = unsafe { symbol(library, c"spindlefig_well_formed") };
-    Ok(Library {
-        place_size,
-        places,
-        rows,
-        marks,
-        stores,
-        set_up,
-        calls: calls(library, marks)?,
-        character,
-        well_formed: well_formed.ok(),
-    })
+    // SAFETY: these functions have had these types in every version of the library, and the last
+    // one where it is there.
+    unsafe {
+        Ok(Library {
+            place_size: symbol(library, c"spindlefig_place_size")?,
+            places: symbol(library, c"spindlefig_places")?,
+            rows: symbol(library, c"spindlefig_rows")?,
+            marks: symbol(library, c"spindlefig_marks")?,
+            stores: symbol(library, c"spindlefig_stores")?,
+            set_up: symbol(library, c"spindlefig_set_up")?,
+            calls: calls(library)?,
+            character: symbol(library, c"spindlefig_character")?,
+            well_formed: symbol(library, c"spindlefig_well_formed").ok(),
+        })
+    }
 }
 
-/// The calls, in the form that goes with the marks: before they had a head there were two a desk.
-fn calls(library: *mut c_void, marks: Count) -> Result<Calls, String> {
+/// The calls, in the form that goes with the marks and the row: before the marks had a head there
+/// were two a desk, and before an answer told whether the time is known it filled nine numbers.
+fn calls(library: *mut c_void) -> Result<Calls, String> {
     let (receive, give_up) = (c"spindlefig_receive", c"spindlefig_give_up");
-    // SAFETY: the number of marks tells which types these functions have.
+    // SAFETY: these two never changed, and what they answer tells which types the others have.
     unsafe {
+        let marks: Count = symbol(library, c"spindlefig_marks")?;
+        let row: Length = symbol(library, c"spindlefig_row")?;
         if marks(1) == 2 {
             let receive = symbol(library, receive)?;
             return Ok(Calls::WithDesks(receive, symbol(library, give_up)?));
         }
-        Ok(Calls::Now(
-            symbol(library, receive)?,
-            symbol(library, give_up)?,
-        ))
+        let give_up = symbol(library, give_up)?;
+        Ok(match row() {
+            9 => Calls::Timed(symbol(library, receive)?, give_up),
+            _ => Calls::Now(symbol(library, receive)?, give_up),
+        })
     }
 }
 

@@ -3,11 +3,18 @@
 use spindlefig::{Caption, Writer};
 use std::iter::repeat_n;
 
-/// One unit, sent by a desk so much later than the round began.
+/// One unit, sent by a desk so much later than the round began, or at an unknown time (`None`).
 pub struct Call {
     pub desk: usize,
-    pub after: u32,
+    pub after: Option<u32>,
     pub unit: Vec<u8>,
+}
+
+impl Call {
+    /// The running time, in a round that begins then.
+    pub fn time(&self, begin: u32) -> Option<u32> {
+        self.after.map(|after| begin + after)
+    }
 }
 
 /// A round of units that is played again and again, each time `span` later.
@@ -79,7 +86,7 @@ fn filling(desks: usize, open: usize) -> Vec<Call> {
         .enumerate()
         .map(|(i, desk)| Call {
             desk,
-            after: HELD + i as u32,
+            after: Some(HELD + i as u32),
             unit: opening(),
         })
         .collect()
@@ -114,7 +121,7 @@ fn whole(text: &str, len: usize, desks: usize, full: bool) -> Load {
     let round = (0..desks)
         .map(|desk| Call {
             desk,
-            after: 0,
+            after: Some(0),
             unit: unit.clone(),
         })
         .collect();
@@ -127,7 +134,7 @@ fn of_desk_0(units: Vec<Vec<u8>>) -> Vec<Call> {
         .into_iter()
         .map(|unit| Call {
             desk: 0,
-            after: 0,
+            after: Some(0),
             unit,
         })
         .collect()
@@ -157,23 +164,24 @@ fn short_parts(open: usize, desks: usize) -> Load {
     load
 }
 
-/// A part that is refused by this number, 6 to 9, and changes nothing, again and again.
+/// A part that is refused by this number, 6 to 9 or 18, and changes nothing, again and again.
 fn refused(number: usize, desks: usize) -> Load {
     let name = format!("part refused {number}");
     let mut load = load(name, desks, true, Vec::new(), 0);
     let last = load.before.last().expect("a full table");
-    let time = last.after + 1;
+    let time = HELD + load.before.len() as u32;
     let (first, desk, after) = match number {
-        6 => (payloads(ASCII, 1, 14).pop(), 0, time),
+        6 => (payloads(ASCII, 1, 14).pop(), 0, Some(time)),
         // Other bytes for the sample that lies last in the table.
         7 => (None, last.desk, last.after),
-        8 => (None, desks - 1, time),
+        8 => (None, desks - 1, Some(time)),
         // Desk 0 takes the last place.
-        _ => (Some(opening()), 0, time + 1),
+        9 => (Some(opening()), 0, Some(time + 1)),
+        _ => (None, 0, None),
     };
     load.before.extend(first.map(|unit| Call {
         desk: 0,
-        after: time,
+        after: Some(time),
         unit,
     }));
     let mut unit = opening();
@@ -223,7 +231,7 @@ fn hostile(desks: usize, full: bool) -> Load {
             };
             Call {
                 desk: dice.below(desks),
-                after: dice.below(MIX / 4) as u32,
+                after: Some(dice.below(MIX / 4) as u32),
                 unit: damaged(&mut dice, unit),
             }
         })
@@ -253,8 +261,8 @@ pub fn loads() -> Vec<Load> {
         all.push(parts(text, 2, false, 1, false));
     }
     all.extend([(0, 1), (3, 1), (1, 8), (3, 8)].map(|(open, desks)| short_parts(open, desks)));
-    all.extend([6, 7, 9].map(|number| refused(number, 1)));
-    all.extend([6, 7, 8, 9].map(|number| refused(number, 8)));
+    all.extend([6, 7, 9, 18].map(|number| refused(number, 1)));
+    all.extend([6, 7, 8, 9, 18].map(|number| refused(number, 8)));
     all
 }
 
@@ -288,7 +296,7 @@ mod tests {
     fn prepared(load: &Load) -> Second {
         let mut relay = Second::set_up(load.desks).expect("1 to 8 desks");
         for call in &load.before {
-            relay.receive(call.desk, call.after, &call.unit, &mut [0; 1024]);
+            relay.receive(call.desk, call.time(0), &call.unit, &mut [0; 1024]);
         }
         relay
     }
@@ -311,7 +319,7 @@ mod tests {
         let mut answers = Vec::new();
         for round in 0..5 {
             for call in &load.round {
-                let time = round * load.span + call.after;
+                let time = call.time(round * load.span);
                 let answer = relay.receive(call.desk, time, &call.unit, &mut [0; 1024]);
                 answers.push(answer.outcome);
             }

@@ -73,7 +73,7 @@ fn options(words: &[OsString]) -> Option<Options> {
 fn play<H: Hears>(hearer: &mut H, calls: &[Call], from: u32, out: &mut [u8]) -> usize {
     calls
         .iter()
-        .map(|call| hearer.hear(call.desk, from + call.after, &call.unit, out))
+        .map(|call| hearer.hear(call.desk, call.time(from), &call.unit, out))
         .sum()
 }
 

@@ -21,6 +21,7 @@ const THREAD: usize = 1024 * 1024;
 
 const DESKS: usize = 8;
 const TIME: u32 = 1000;
+const KNOWN: Option<u32> = Some(TIME);
 
 /// A call whose stack is measured.
 #[derive(Clone, Copy)]
@@ -69,7 +70,7 @@ fn deepest(
     let mut relay = Compiled::fresh(library, DESKS);
     let mut out = vec![0; 1024];
     if matches!(case, Case::Joins | Case::GivesUp) {
-        relay.receive(0, TIME, FIRST, &mut out);
+        relay.receive(0, KNOWN, FIRST, &mut out);
     }
     relay.calls = calls.unwrap_or(relay.calls);
     let here = black_box(&relay) as *const Compiled as usize;
@@ -77,9 +78,9 @@ fn deepest(
     // SAFETY: this is the thread's own stack, below all that is in use and far above its end.
     unsafe { painted.write_bytes(pattern, PAINTED) };
     let answer = match case {
-        Case::Whole => relay.receive(0, TIME, WHOLE, &mut out),
-        Case::Opens => relay.receive(0, TIME, FIRST, &mut out),
-        Case::Joins => relay.receive(0, TIME, LAST, &mut out),
+        Case::Whole => relay.receive(0, KNOWN, WHOLE, &mut out),
+        Case::Opens => relay.receive(0, KNOWN, FIRST, &mut out),
+        Case::Joins => relay.receive(0, KNOWN, LAST, &mut out),
         Case::GivesUp => relay.give_up(0, TIME),
     };
     // SAFETY: as above; every byte was written.
@@ -92,6 +93,7 @@ fn deepest(
 fn entering(calls: Calls) -> Calls {
     match calls {
         Calls::Now(..) => Calls::Now(enter::receive, enter::give_up),
+        Calls::Timed(..) => Calls::Timed(enter::receive_timed, enter::give_up),
         Calls::WithDesks(..) => Calls::WithDesks(enter::receive_for, enter::give_up_for),
     }
 }
@@ -112,6 +114,7 @@ mod tests {
         _: *mut u32,
         _: usize,
         _: *mut u8,
+        _: usize,
         _: usize,
         _: usize,
         _: u32,

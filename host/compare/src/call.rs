@@ -18,10 +18,10 @@ pub struct Run {
 /// One call; `output` is the length of the lent output.
 #[derive(Debug)]
 pub enum Call {
-    /// Each unit of the payload in turn.
+    /// Each unit of the payload in turn, from a running time that may be unknown.
     Receive {
         desk: usize,
-        time: u32,
+        time: Option<u32>,
         payload: Vec<u8>,
         output: usize,
     },
@@ -103,6 +103,18 @@ impl Call {
     }
 }
 
+/// A running time, `?` where it is unknown.
+pub struct Time(pub Option<u32>);
+
+impl Display for Time {
+    fn fmt(&self, f: &mut Formatter<'_>) -> fmt::Result {
+        match self.0 {
+            Some(time) => time.fmt(f),
+            None => f.write_str("?"),
+        }
+    }
+}
+
 /// Bytes as hexadecimal digits, `-` for none.
 struct Hex<'a>(&'a [u8]);
 
@@ -123,7 +135,7 @@ impl Display for Call {
                 time,
                 payload,
                 ..
-            } => write!(f, "receive {desk} {time} {}", Hex(payload)),
+            } => write!(f, "receive {desk} {} {}", Time(*time), Hex(payload)),
             Call::GiveUp { desk, time } => write!(f, "give-up {desk} {time}"),
             Call::Look { desk, index, book } => write!(f, "look {desk} {index} {}", Hex(book)),
             Call::Write { caption, m, k, .. } => {

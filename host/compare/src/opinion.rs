@@ -20,7 +20,7 @@ pub type Written = Result<(usize, usize), u8>;
 /// The calls of a relay.
 pub trait Opinion: Sized {
     fn set_up(n: usize) -> Result<Self, u8>;
-    fn receive(&mut self, desk: usize, time: u32, rest: &[u8], out: &mut [u8]) -> Answer;
+    fn receive(&mut self, desk: usize, time: Option<u32>, rest: &[u8], out: &mut [u8]) -> Answer;
     fn give_up(&mut self, desk: usize, time: u32) -> Result<(), u8>;
     fn look(&self, desk: usize, index: usize, book: &[u8]) -> Vec<u8>;
 
@@ -47,7 +47,7 @@ impl Opinion for Second {
         Second::set_up(n)
     }
 
-    fn receive(&mut self, desk: usize, time: u32, rest: &[u8], out: &mut [u8]) -> Answer {
+    fn receive(&mut self, desk: usize, time: Option<u32>, rest: &[u8], out: &mut [u8]) -> Answer {
         Second::receive(self, desk, time, rest, out)
     }
 
@@ -87,7 +87,7 @@ impl Opinion for Rival {
         Rival::set_up(n)
     }
 
-    fn receive(&mut self, desk: usize, time: u32, rest: &[u8], out: &mut [u8]) -> Answer {
+    fn receive(&mut self, desk: usize, time: Option<u32>, rest: &[u8], out: &mut [u8]) -> Answer {
         let answer = Rival::receive(self, desk, time, rest, out);
         Answer {
             used: answer.used,
@@ -115,7 +115,7 @@ impl Opinion for Relay {
         Relay::set_up(n).map_err(Refusal::number)
     }
 
-    fn receive(&mut self, desk: usize, time: u32, rest: &[u8], out: &mut [u8]) -> Answer {
+    fn receive(&mut self, desk: usize, time: Option<u32>, rest: &[u8], out: &mut [u8]) -> Answer {
         let answer = Relay::receive(self, desk, time, rest, out);
         Answer {
             used: answer.used,

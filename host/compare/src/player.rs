@@ -1,6 +1,6 @@
 //! Plays the same calls to three opinions and compares all they say.
 
-use crate::call::{Call, Run};
+use crate::call::{Call, Run, Time};
 use crate::opinion::{Opinion, Tools, Written};
 use crate::tally::Tally;
 use second::{is_well_formed, Answer, Lent, Outcome, Step};
@@ -220,7 +220,7 @@ impl<'a, A: Opinion + Tools, B: Opinion + Tools, C: Opinion> Player<'a, A, B, C>
     fn receive(
         &mut self,
         desk: usize,
-        mut time: u32,
+        mut time: Option<u32>,
         payload: &[u8],
         output: usize,
     ) -> Result<(), String> {
@@ -229,7 +229,7 @@ impl<'a, A: Opinion + Tools, B: Opinion + Tools, C: Opinion> Player<'a, A, B, C>
             let rest = &payload[at..];
             let [relay, second, rival] = self.outputs.lend(output);
             let answer = agreed(
-                format_args!("unit at {at}, time {time}"),
+                format_args!("unit at {at}, time {}", Time(time)),
                 self.relay.receive(desk, time, rest, relay),
                 self.second.receive(desk, time, rest, second),
                 self.rival.receive(desk, time, rest, rival),
@@ -238,6 +238,7 @@ impl<'a, A: Opinion + Tools, B: Opinion + Tools, C: Opinion> Player<'a, A, B, C>
             self.outputs.well_formed(&answer.outcome)?;
             self.hold_counts()?;
             self.tally.received(&answer.outcome);
+            self.tally.timed(time, answer.next);
             at += answer.used;
             time = answer.next;
             if answer.used == 0 || at == payload.len() || self.is_done() {

@@ -4,7 +4,7 @@ use second::Outcome;
 use std::collections::BTreeMap;
 use std::fmt::{self, Display, Formatter};
 
-const REFUSALS: usize = 17;
+const REFUSALS: usize = 18;
 
 #[derive(Default)]
 pub struct Tally {
@@ -45,6 +45,16 @@ impl Tally {
             Outcome::Refused(number) => return self.refused("receive", *number),
         };
         self.add("receive", name);
+    }
+
+    /// Whether the running time was known before a unit and behind it.
+    pub fn timed(&mut self, time: Option<u32>, next: Option<u32>) {
+        let name = match (time, next) {
+            (Some(_), Some(_)) => "known",
+            (Some(_), None) => "lost",
+            (None, _) => "unknown",
+        };
+        self.uncounted("time", name);
     }
 
     /// The refusals seen fewer times than `least`.

@@ -1,5 +1,7 @@
 //! Opinions that are wrong on purpose have to be found out.
 
+mod times;
+
 use crate::call::Call;
 use crate::comparison::{compare, Found};
 use crate::log;
@@ -44,10 +46,13 @@ const COMMON_STAYS: u8 = 32;
 const NEXT_DESK: u8 = 33;
 const NONE: u8 = 34;
 
+/// Who sends a unit: a desk, and a running time that may be unknown.
+type Sender = (usize, Option<u32>);
+
 /// The second relay with one mistake.
 struct Wrong<const MISTAKE: u8> {
     second: Second,
-    arrived: HashMap<(usize, u32), Vec<u8>>,
+    arrived: HashMap<Sender, Vec<u8>>,
     /// Whether it is lent memory that is no relay's, and refuses all by 1.
     lent_other: bool,
     /// How many samples of each desk are counted that are not open.
@@ -58,7 +63,7 @@ struct Wrong<const MISTAKE: u8> {
 
 impl<const MISTAKE: u8> Wrong<MISTAKE> {
     /// Lays the parts of a joined sample down as they came.
-    fn lay_as_arrived(&mut self, name: (usize, u32), rest: &[u8], out: &mut [u8], answer: &Answer) {
+    fn lay_as_arrived(&mut self, sender: Sender, rest: &[u8], out: &mut [u8], answer: &Answer) {
         let start = if rest.first().is_some_and(|first| first & 7 == 2) {
             10
         } else {
@@ -66,9 +71,9 @@ impl<const MISTAKE: u8> Wrong<MISTAKE> {
         };
         let data = rest.get(start..answer.used).unwrap_or_default();
         match answer.outcome {
-            Outcome::Kept(_) => self.arrived.entry(name).or_default().extend(data),
+            Outcome::Kept(_) => self.arrived.entry(sender).or_default().extend(data),
             Outcome::Joined(_) => {
-                let mut sample = self.arrived.remove(&name).unwrap_or_default();
+                let mut sample = self.arrived.remove(&sender).unwrap_or_default();
                 sample.extend(data);
                 out[..sample.len()].copy_from_slice(&sample);
             }
@@ -77,12 +82,12 @@ impl<const MISTAKE: u8> Wrong<MISTAKE> {
     }
 
     /// Reads strings of TYPE 1 and 2 in the encoding that U does not say.
-    fn receive_otherwise(&mut self, name: (usize, u32), rest: &[u8], out: &mut [u8]) -> Answer {
+    fn receive_otherwise(&mut self, sender: Sender, rest: &[u8], out: &mut [u8]) -> Answer {
         let mut rest = rest.to_vec();
         if rest.first().is_some_and(|first| matches!(first & 7, 1 | 2)) {
             rest[0] ^= 0x80;
         }
-        let mut answer = self.second.receive(name.0, name.1, &rest, out);
+        let mut answer = self.second.receive(sender.0, sender.1, &rest, out);
         if let Outcome::Whole(facts) | Outcome::Joined(facts) = &mut answer.outcome {
             facts.u ^= 1;
         }
@@ -90,9 +95,10 @@ impl<const MISTAKE: u8> Wrong<MISTAKE> {
     }
 
     /// What is answered in place of 17, where this mistake makes a difference to it.
-    fn misread(&mut self, name: (usize, u32), unit: &[u8], out: &mut [u8]) -> Option<Answer> {
+    fn misread(&mut self, sender: Sender, unit: &[u8], out: &mut [u8]) -> Option<Answer> {
         let good = with_zeros(unit);
-        let heard = |relay: &mut Second, out: &mut [u8]| relay.receive(name.0, name.1, &good, out);
+        let heard =
+            |relay: &mut Second, out: &mut [u8]| relay.receive(sender.0, sender.1, &good, out);
         let would_be = heard(&mut self.second.clone(), &mut [0; 1024]);
         let lets_through = match MISTAKE {
             WHOLE_UNREAD => unit[0] & 7 == 1,
@@ -121,9 +127,9 @@ impl<const MISTAKE: u8> Wrong<MISTAKE> {
     }
 
     /// 17 for what is not to be looked at, where this mistake looks at it.
-    fn overread(&self, name: (usize, u32), rest: &[u8], out: &[u8]) -> Option<Answer> {
+    fn overread(&self, sender: Sender, rest: &[u8], out: &[u8]) -> Option<Answer> {
         let mut relay = self.second.clone();
-        let right = relay.receive(name.0, name.1, rest, &mut out.to_vec());
+        let right = relay.receive(sender.0, sender.1, rest, &mut out.to_vec());
         let unit = &rest[..right.used];
         let kind = unit.first()? & 7;
         let looked_at = match (MISTAKE, right.outcome) {
@@ -138,7 +144,7 @@ impl<const MISTAKE: u8> Wrong<MISTAKE> {
         let ill_formed = !second::is_well_formed(u, looked_at);
         ill_formed.then_some(Answer {
             used: unit.len(),
-            next: name.1,
+            next: sender.1,
             outcome: Outcome::Refused(17),
         })
     }
@@ -193,7 +199,7 @@ impl<const MISTAKE: u8> Opinion for Wrong<MISTAKE> {
         })
     }
 
-    fn receive(&mut self, desk: usize, time: u32, rest: &[u8], out: &mut [u8]) -> Answer {
+    fn receive(&mut self, desk: usize, time: Option<u32>, rest: &[u8], out: &mut [u8]) -> Answer {
         let desk = if self.lent_other { usize::MAX } else { desk };
         if let MODIFIERS_READ | BOXES_READ | STYLES_READ | BEFORE_FIELDS = MISTAKE {
             if let Some(answer) = self.overread((desk, time), rest, out) {
@@ -202,7 +208,7 @@ impl<const MISTAKE: u8> Opinion for Wrong<MISTAKE> {
         }
         let mut answer = match MISTAKE {
             OTHER_ENCODING => self.receive_otherwise((desk, time), rest, out),
-            _ => self.second.receive(desk, time, rest, out),
+            _ => self.receive_mistimed((desk, time), rest, out),
         };
         if answer.outcome == Outcome::Refused(17) {
             let misread = self.misread((desk, time), &rest[..answer.used], out);
@@ -323,11 +329,12 @@ fn is_hex(word: &str) -> bool {
     word == "-" || !word.is_empty() && word.len().is_multiple_of(2) && digits(word)
 }
 
-/// What words follow the name of a call: `n` a number, `h` hexadecimal digits.
+/// What words follow the name of a call: `n` a number, `t` a number or `?`, `h` hexadecimal digits.
 fn form(name: &str) -> &'static str {
     match name {
         "set-up" => "n",
-        "receive" | "look" => "nnh",
+        "receive" => "nth",
+        "look" => "nnh",
         "give-up" => "nn",
         "write" => "nnnhhnn",
         "describe" => "nhnn",
@@ -344,7 +351,8 @@ fn assert_well_formed(line: &str) {
     assert_eq!(words.len(), form.len(), "{line}");
     for (word, letter) in words.iter().zip(form.chars()) {
         let good = match letter {
-            'n' => word.parse::<usize>().is_ok(),
+            't' if *word == "?" => true,
+            'n' | 't' => word.parse::<usize>().is_ok(),
             _ => is_hex(word),
         };
         assert!(good, "{word} in {line}");

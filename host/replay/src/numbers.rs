@@ -39,6 +39,11 @@ pub fn list(numbers: &[usize]) -> String {
     numbers.join(" ")
 }
 
+/// A running time, `?` where it is unknown.
+pub fn time(time: Option<u32>) -> String {
+    time.map_or("?".to_string(), |time| time.to_string())
+}
+
 fn refused(refusal: Refusal) -> String {
     format!("refused {}", refusal.number())
 }
@@ -54,10 +59,8 @@ fn unit(heard: &Heard) -> String {
         Outcome::Skipped(kind) => format!("skipped {kind}"),
         Outcome::Refused(refusal) => refused(refusal),
     };
-    format!(
-        "used {} next {} {outcome}",
-        heard.answer.used, heard.answer.next
-    )
+    let next = time(heard.answer.next);
+    format!("used {} next {next} {outcome}", heard.answer.used)
 }
 
 fn sample(f: Facts, bytes: &[u8]) -> String {

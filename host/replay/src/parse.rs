@@ -10,7 +10,8 @@ pub enum Call {
     },
     Receive {
         desk: usize,
-        time: u32,
+        /// `None` where it is unknown.
+        time: Option<u32>,
         payload: Vec<u8>,
     },
     GiveUp {
@@ -133,6 +134,14 @@ impl Words<'_> {
         self.number(i, u64::from(u32::MAX)).map(|n| n as u32)
     }
 
+    /// A time, or `?` for an unknown one.
+    fn running_time(&self, i: usize) -> Result<Option<u32>, String> {
+        match self.words[i] {
+            "?" => Ok(None),
+            _ => self.time(i).map(Some),
+        }
+    }
+
     fn bytes(&self, i: usize) -> Result<Vec<u8>, String> {
         hex::read(self.words[i]).map_err(|wrong| format!("{} {wrong}", self.names[i]))
     }
@@ -143,7 +152,7 @@ fn call(command: &str, w: &Words) -> Result<Call, String> {
         "set-up" => Call::SetUp { desks: w.size(0)? },
         "receive" => Call::Receive {
             desk: w.size(0)?,
-            time: w.time(1)?,
+            time: w.running_time(1)?,
             payload: w.bytes(2)?,
         },
         "give-up" => Call::GiveUp {
@@ -208,11 +217,24 @@ mod tests {
     fn words_become_a_call() {
         let receive = Call::Receive {
             desk: usize::MAX,
-            time: u32::MAX,
+            time: Some(u32::MAX),
             payload: vec![0xab, 0xcd],
         };
         let text = "  receive 18446744073709551615\t4294967295 abCD \r";
         assert_eq!(line(text), Ok(Line::Call(receive)));
+    }
+
+    #[test]
+    fn only_receive_takes_an_unknown_time() {
+        let receive = Call::Receive {
+            desk: 0,
+            time: None,
+            payload: Vec::new(),
+        };
+        assert_eq!(line("receive 0 ? -"), Ok(Line::Call(receive)));
+        assert_eq!(wrong("give-up 0 ?"), "TIME is not a number");
+        assert_eq!(wrong("receive ? 0 -"), "DESK is not a number");
+        assert_eq!(wrong("receive 0 ?? -"), "TIME is not a number");
     }
 
     #[test]

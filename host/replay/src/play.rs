@@ -98,7 +98,12 @@ impl Player {
     }
 }
 
-fn receive<'a>(relay: &mut Relay, desk: usize, time: u32, payload: &'a [u8]) -> Vec<Event<'a>> {
+fn receive<'a>(
+    relay: &mut Relay,
+    desk: usize,
+    time: Option<u32>,
+    payload: &'a [u8],
+) -> Vec<Event<'a>> {
     let heard: Vec<Heard> = match payload {
         [] => vec![Heard {
             at: 0,
@@ -106,7 +111,7 @@ fn receive<'a>(relay: &mut Relay, desk: usize, time: u32, payload: &'a [u8]) -> 
             answer: relay.receive(desk, time, payload, &mut [0; OUTPUT]),
             sample: Vec::new(),
         }],
-        _ => relay.units(desk, time, payload).collect(),
+        _ => relay.units_from(desk, time, payload).collect(),
     };
     let event = |heard| Event::Heard {
         desk,

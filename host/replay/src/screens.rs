@@ -15,7 +15,7 @@ pub fn line(event: &Event) -> String {
             payload,
             heard,
         } => at_desk(heard.time, *desk, &unit(payload, heard)),
-        Event::GivenUp { desk, time, result } => at_desk(*time, *desk, &given_up(result)),
+        Event::GivenUp { desk, time, result } => at_desk(Some(*time), *desk, &given_up(result)),
         Event::Shown {
             desk,
             index,
@@ -40,8 +40,8 @@ fn aside(note: &str) -> String {
     format!("{:10}  ({note})", "")
 }
 
-fn at_desk(time: u32, desk: usize, words: &str) -> String {
-    format!("{time:>10}  desk {desk} | {words}")
+fn at_desk(time: Option<u32>, desk: usize, words: &str) -> String {
+    format!("{:>10}  desk {desk} | {words}", numbers::time(time))
 }
 
 fn unit(payload: &[u8], heard: &Heard) -> String {
@@ -159,20 +159,42 @@ mod tests {
         assert_eq!(utf16(&[0xd8, 0x3d, 0x20]), "\u{fffd}\u{fffd}");
     }
 
-    #[test]
-    fn a_refusal_is_told_in_words() {
+    /// The line of desk 0 for a unit of ten bytes that is refused and leaves the time.
+    fn refused(time: Option<u32>, refusal: Refusal) -> String {
         let heard = Heard {
             at: 0,
-            time: 6,
+            time,
             answer: Answer {
                 used: 10,
-                next: 6,
-                outcome: Outcome::Refused(Refusal::IllFormed),
+                next: time,
+                outcome: Outcome::Refused(refusal),
             },
             sample: Vec::new(),
         };
-        let words = "the string is not well-formed; the screens stay as they are";
-        assert_eq!(unit(&[0; 10], &heard), format!("(refused 17: {words})"));
+        let payload = &[0; 10];
+        line(&Event::Heard {
+            desk: 0,
+            payload,
+            heard,
+        })
+    }
+
+    #[test]
+    fn a_refusal_is_told_in_words() {
+        let words = "(refused 17: the string is not well-formed; the screens stay as they are)";
+        assert_eq!(
+            refused(Some(6), Refusal::IllFormed),
+            format!("         6  desk 0 | {words}")
+        );
+    }
+
+    #[test]
+    fn an_unknown_time_is_shown_as_such() {
+        let words = "(refused 18: the running time is not known; the screens stay as they are)";
+        assert_eq!(
+            refused(None, Refusal::Untimed),
+            format!("         ?  desk 0 | {words}")
+        );
     }
 
     #[test]

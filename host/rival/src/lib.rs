@@ -1,10 +1,10 @@
-//! A caption relay made for speed alone: the rules of document 01 with requests 1 and 2 of document
-//! 02, and no proof, to see what the proof costs.
+//! A caption relay made for speed alone: the rules of document 01 with requests 1, 2 and 3 of
+//! document 02, and no proof, to see what the proof costs.
 //!
 //! Places, times and descriptions stand in flat tables, what can be counted is kept as a count, a
 //! part that completes its sample goes straight to the output, and no call allocates. An answer is
 //! written once, where the caller wants it: what passes between functions fits in registers.
-//! Refusals are the numbers of the rules.
+//! Refusals are the numbers of the rules. A running time that is not known is `None`.
 
 mod book;
 mod desk;
@@ -49,7 +49,7 @@ pub struct Rival {
 #[derive(Debug, Clone, Copy, PartialEq, Eq)]
 pub struct Answer {
     pub used: usize,
-    pub next: u32,
+    pub next: Option<u32>,
     pub outcome: Outcome,
 }
 
@@ -87,12 +87,16 @@ enum Step {
     Joined(Joined),
 }
 
-fn refused(used: usize, next: u32, number: u8) -> Answer {
+fn told(used: usize, next: Option<u32>, outcome: Outcome) -> Answer {
     Answer {
         used,
         next,
-        outcome: Outcome::Refused(number),
+        outcome,
     }
+}
+
+fn refused(used: usize, next: Option<u32>, number: u8) -> Answer {
+    told(used, next, Outcome::Refused(number))
 }
 
 impl Rival {
@@ -110,12 +114,14 @@ impl Rival {
     }
 
     /// Reads the first unit of `rest`.
-    pub fn receive(&mut self, desk: usize, time: u32, rest: &[u8], out: &mut [u8]) -> Answer {
-        let stays = |used, outcome| Answer {
-            used,
-            next: time,
-            outcome,
-        };
+    pub fn receive(
+        &mut self,
+        desk: usize,
+        time: Option<u32>,
+        rest: &[u8],
+        out: &mut [u8],
+    ) -> Answer {
+        let stays = |used, outcome| told(used, time, outcome);
         if desk >= self.desks.len() {
             return stays(0, Outcome::Refused(1));
         }
@@ -169,7 +175,13 @@ impl Rival {
         (open, self.common)
     }
 
-    fn take_whole(&mut self, desk: usize, time: u32, unit: &[u8], out: &mut Output) -> Answer {
+    fn take_whole(
+        &mut self,
+        desk: usize,
+        time: Option<u32>,
+        unit: &[u8],
+        out: &mut Output,
+    ) -> Answer {
         let used = unit.len();
         let Some(whole) = unit::whole(unit) else {
             return refused(used, time, 4);
@@ -177,7 +189,10 @@ impl Rival {
         if !is_well_formed(whole.u, &whole.data[..whole.tlen]) {
             return refused(used, time, 17);
         }
-        let next = time.wrapping_add(whole.sdur);
+        let Some(time) = time else {
+            return refused(used, None, 18);
+        };
+        let next = unit::later(time, whole.sdur);
         if let Err(number) = self.whole(desk, time, &whole, out) {
             return refused(used, next, number);
         }
@@ -189,11 +204,7 @@ impl Rival {
             string: whole.tlen,
             sample: whole.data.len(),
         };
-        Answer {
-            used,
-            next,
-            outcome: Outcome::Whole(facts),
-        }
+        told(used, next, Outcome::Whole(facts))
     }
 
     #[inline(always)]
@@ -228,7 +239,13 @@ impl Rival {
         }
     }
 
-    fn take_part(&mut self, desk: usize, time: u32, unit: &[u8], out: &mut Output) -> Answer {
+    fn take_part(
+        &mut self,
+        desk: usize,
+        time: Option<u32>,
+        unit: &[u8],
+        out: &mut Output,
+    ) -> Answer {
         let used = unit.len();
         let Some(part) = unit::part(unit) else {
             return refused(used, time, 4);
@@ -236,32 +253,20 @@ impl Rival {
         if part.is_string() && !is_well_formed(part.text.u(), part.data) {
             return refused(used, time, 17);
         }
-        let next = time.wrapping_add(part.lasts());
+        let Some(time) = time else {
+            return refused(used, None, 18);
+        };
+        let next = part.next(time);
         let joined = match self.part(desk, time, &part, out) {
             Ok(Step::Joined(joined)) => joined,
             Ok(Step::Kept(missing)) => {
-                let outcome = Outcome::Kept(usize::from(missing));
-                return Answer {
-                    used,
-                    next,
-                    outcome,
-                };
+                return told(used, next, Outcome::Kept(usize::from(missing)))
             }
-            Ok(Step::Repeat) => {
-                let outcome = Outcome::Repeat;
-                return Answer {
-                    used,
-                    next,
-                    outcome,
-                };
-            }
+            Ok(Step::Repeat) => return told(used, next, Outcome::Repeat),
             Err(number) => return refused(used, next, number),
         };
-        Answer {
-            used,
-            next,
-            outcome: Outcome::Joined(joined.facts(time, part.sdur)),
-        }
+        let facts = joined.facts(time, part.sdur);
+        told(used, next, Outcome::Joined(facts))
     }
 
     #[inline(always)]

@@ -49,12 +49,12 @@ impl Part<'_> {
         self.kind == 2
     }
 
-    /// What the part adds to the running time.
-    pub fn lasts(&self) -> u32 {
+    /// The running time behind the part, which only the last one moves.
+    pub fn next(&self, time: u32) -> Option<u32> {
         if self.this == self.total {
-            self.sdur
+            later(time, self.sdur)
         } else {
-            0
+            Some(time)
         }
     }
 
@@ -84,6 +84,11 @@ pub fn first(rest: &[u8]) -> Option<&[u8]> {
 fn sdur(bytes: [u8; 3]) -> u32 {
     let [a, b, c] = bytes;
     u32::from_be_bytes([0, a, b, c])
+}
+
+/// The running time behind what lasts so long; SDUR 0 is a duration that is not known yet.
+pub fn later(time: u32, sdur: u32) -> Option<u32> {
+    (sdur != 0).then_some(time.wrapping_add(sdur))
 }
 
 /// A TYPE 1 unit whose fields are in range.

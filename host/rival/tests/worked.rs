@@ -10,7 +10,7 @@ fn fresh(n: usize) -> Rival {
 }
 
 fn receive(relay: &mut Rival, desk: usize, time: u32, rest: &[u8]) -> Answer {
-    relay.receive(desk, time, rest, &mut [0; 1024])
+    relay.receive(desk, Some(time), rest, &mut [0; 1024])
 }
 
 /// Part `this` of three, of `data`, of a sample of six bytes.
@@ -23,7 +23,7 @@ fn third(this: u8, data: &[u8]) -> Vec<u8> {
 #[test]
 fn case_1_puts_the_sample_in_front_and_leaves_the_rest() {
     let mut out = [0xEE; 1024];
-    let answer = fresh(1).receive(0, 1000, CASE_1, &mut out);
+    let answer = fresh(1).receive(0, Some(1000), CASE_1, &mut out);
     let facts = Facts {
         time: 1000,
         u: 0,
@@ -32,7 +32,7 @@ fn case_1_puts_the_sample_in_front_and_leaves_the_rest() {
         string: 2,
         sample: 2,
     };
-    assert_eq!((answer.used, answer.next), (11, 91000));
+    assert_eq!((answer.used, answer.next), (11, Some(91000)));
     assert_eq!(answer.outcome, Outcome::Whole(facts));
     assert_eq!(&out[..3], b"Hi\xEE");
 }
@@ -50,7 +50,7 @@ fn parts_join_in_any_order() {
     ] {
         let mut relay = fresh(1);
         let mut out = [0xEE; 1024];
-        let answers = order.map(|i| relay.receive(0, 7, &parts[i], &mut out));
+        let answers = order.map(|i| relay.receive(0, Some(7), &parts[i], &mut out));
         let kept = [answers[0].outcome, answers[1].outcome];
         assert_eq!(kept, [Outcome::Kept(2), Outcome::Kept(1)], "{order:?}");
         assert!(
@@ -126,10 +126,10 @@ fn case_10_the_shares() {
 /// The unit is 17: its bytes are used, and time and output stay.
 fn assert_ill_formed(relay: &mut Rival, time: u32, rest: &[u8]) {
     let mut out = [0xEE; 1024];
-    let answer = relay.receive(0, time, rest, &mut out);
+    let answer = relay.receive(0, Some(time), rest, &mut out);
     let expected = Answer {
         used: rest.len(),
-        next: time,
+        next: Some(time),
         outcome: Outcome::Refused(17),
     };
     assert_eq!(answer, expected, "{rest:02X?}");
@@ -154,11 +154,11 @@ fn ill_formed_strings_are_17_before_late_repeats_and_too_many_bytes() {
         b"\x81\x00\x0B\x80\x00\x00\x09\x00\x03\x00a\x00",
     );
     let kept = receive(&mut relay, 0, 6, &third(3, b"def"));
-    assert_eq!((kept.next, kept.outcome), (106, Outcome::Kept(2)));
+    assert_eq!((kept.next, kept.outcome), (Some(106), Outcome::Kept(2)));
     assert_ill_formed(&mut relay, 6, &third(3, b"de\xFF"));
     assert_eq!(relay.give_up(0, 6), Ok(()));
     let late = receive(&mut relay, 0, 6, &third(3, b"def"));
-    assert_eq!((late.next, late.outcome), (106, Outcome::Refused(6)));
+    assert_eq!((late.next, late.outcome), (Some(106), Outcome::Refused(6)));
     assert_ill_formed(&mut relay, 6, &third(3, b"de\xFF"));
 }
 
@@ -176,4 +176,68 @@ fn only_strings_are_looked_at() {
         let outcome = receive(&mut relay, 0, time, unit).outcome;
         assert!(!matches!(outcome, Outcome::Refused(_)), "{unit:02X?}");
     }
+}
+
+/// Parts 1 and 2 of a sample of two letters, with SDUR 0.
+const LIVE: [&[u8]; 2] = [
+    b"\x02\x00\x0A\x21\x00\x00\x00\x80\x00\x02A",
+    b"\x02\x00\x0A\x22\x00\x00\x00\x80\x00\x02B",
+];
+
+#[test]
+fn the_time_is_unknown_behind_a_live_line_and_text_units_are_18_there() {
+    let units: [(&[u8], Option<Outcome>); 5] = [
+        (b"\x01\x00\x09\x80\x00\x00\x00\x00\x01A", None),
+        (
+            b"\x01\x00\x08\x80\x00\x00\x05\x00\x00",
+            Some(Outcome::Refused(18)),
+        ),
+        (b"\x05\x00\x04\x01a", Some(Outcome::Described)),
+        (b"\x06\x00\x02", Some(Outcome::Skipped(6))),
+        (b"\x01", Some(Outcome::Refused(3))),
+    ];
+    let mut relay = fresh(1);
+    let mut time = Some(0);
+    for (unit, outcome) in units {
+        let answer = relay.receive(0, time, unit, &mut [0; 1024]);
+        assert_eq!((answer.used, answer.next), (unit.len(), None));
+        match outcome {
+            None => assert!(matches!(answer.outcome, Outcome::Whole(_))),
+            Some(outcome) => assert_eq!(answer.outcome, outcome),
+        }
+        time = answer.next;
+    }
+    let late = receive(&mut relay, 0, 0, LIVE[1]);
+    assert_eq!((late.next, late.outcome), (None, Outcome::Refused(6)));
+}
+
+#[test]
+fn only_the_last_part_of_a_live_line_makes_the_time_unknown() {
+    for (order, next) in [([0, 1], [Some(7), None]), ([1, 0], [None, Some(7)])] {
+        let mut relay = fresh(1);
+        let answers = order.map(|i| receive(&mut relay, 0, 7, LIVE[i]));
+        assert_eq!(answers.map(|answer| answer.next), next);
+        assert!(matches!(answers[1].outcome, Outcome::Joined(_)));
+    }
+}
+
+#[test]
+fn at_an_unknown_time_4_and_17_come_first_and_18_stores_nothing() {
+    let mut relay = fresh(1);
+    let mut refused = |unit: &[u8]| {
+        let answer = relay.receive(0, None, unit, &mut [0; 1024]);
+        assert_eq!((answer.used, answer.next), (unit.len(), None));
+        answer.outcome
+    };
+    assert_eq!(
+        refused(b"\x01\x00\x07\x80\x00\x00\x05\x00"),
+        Outcome::Refused(4)
+    );
+    assert_eq!(refused(&third(1, b"\xFF")), Outcome::Refused(17));
+    for unit in [CASE_1, PART_7, LIVE[0], LIVE[1]] {
+        assert_eq!(refused(unit), Outcome::Refused(18));
+    }
+    assert_eq!(relay.counts(), ([0; 8], 0));
+    let whole = receive(&mut relay, 0, 0, CASE_1);
+    assert!(matches!(whole.outcome, Outcome::Whole(_)));
 }

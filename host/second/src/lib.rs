@@ -1,8 +1,9 @@
 //! A second caption relay in plain Rust, written from the rules alone: document
-//! 01 with requests 1 and 2 of document 02.
+//! 01 with requests 1, 2 and 3 of document 02.
 //!
 //! It keeps what it holds in maps and vectors and borrows no memory from its
-//! caller. Refusals are the numbers of the rules, 1 to 17.
+//! caller. Refusals are the numbers of the rules, 1 to 18. A running time that
+//! is not known is `None`.
 
 mod boxes;
 mod desk;
@@ -47,7 +48,7 @@ pub struct Second {
 #[derive(Debug, Clone, PartialEq, Eq)]
 pub struct Answer {
     pub used: usize,
-    pub next: u32,
+    pub next: Option<u32>,
     pub outcome: Outcome,
 }
 
@@ -98,7 +99,13 @@ impl Second {
     }
 
     /// Reads the first unit of `rest`.
-    pub fn receive(&mut self, desk: usize, time: u32, rest: &[u8], out: &mut [u8]) -> Answer {
+    pub fn receive(
+        &mut self,
+        desk: usize,
+        time: Option<u32>,
+        rest: &[u8],
+        out: &mut [u8],
+    ) -> Answer {
         let stays = |used, outcome| Answer {
             used,
             next: time,
@@ -120,7 +127,7 @@ impl Second {
             Err(number) => stays(bytes.len(), Outcome::Refused(number)),
             Ok(unit) => Answer {
                 used: bytes.len(),
-                next: time.wrapping_add(unit.lasts()),
+                next: unit.next(time),
                 outcome: self
                     .take(desk, time, unit, out)
                     .unwrap_or_else(Outcome::Refused),
@@ -161,15 +168,16 @@ impl Second {
     fn take(
         &mut self,
         desk: usize,
-        time: u32,
+        time: Option<u32>,
         unit: Unit<'_>,
         out: &mut [u8],
     ) -> Result<Outcome, u8> {
+        let known = time.ok_or(18);
         match unit {
             Unit::Skipped(kind) => Ok(Outcome::Skipped(kind)),
             Unit::Description { sidx, data } => self.desks[desk].window.describe(sidx, data),
-            Unit::Whole(whole) => self.desks[desk].whole(time, whole, out),
-            Unit::Part(part) => self.part(desk, time, part, out),
+            Unit::Whole(whole) => self.desks[desk].whole(known?, whole, out),
+            Unit::Part(part) => self.part(desk, known?, part, out),
         }
     }
 

@@ -89,12 +89,22 @@ impl<'a> Unit<'a> {
         }
     }
 
-    /// What the unit adds to the running time.
-    pub fn lasts(&self) -> u32 {
+    /// The running time behind the unit. Where it is not known, no unit makes it known again.
+    pub fn next(&self, time: Option<u32>) -> Option<u32> {
+        let time = time?;
+        match self.lasts() {
+            Some(0) => None,
+            Some(sdur) => Some(time.wrapping_add(sdur)),
+            None => Some(time),
+        }
+    }
+
+    /// SDUR of a unit that moves the running time; 0 stands for a duration that is not known yet.
+    fn lasts(&self) -> Option<u32> {
         match self {
-            Unit::Whole(whole) => whole.sdur,
-            Unit::Part(part) if part.this == part.head.total => part.head.sdur,
-            _ => 0,
+            Unit::Whole(whole) => Some(whole.sdur),
+            Unit::Part(part) if part.this == part.head.total => Some(part.head.sdur),
+            _ => None,
         }
     }
 }

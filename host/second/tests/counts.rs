@@ -23,7 +23,9 @@ fn busy() -> Second {
 }
 
 fn receive(relay: &mut Second, desk: usize, time: u32, rest: &[u8]) -> Outcome {
-    relay.receive(desk, time, rest, &mut [0; 1024]).outcome
+    relay
+        .receive(desk, Some(time), rest, &mut [0; 1024])
+        .outcome
 }
 
 fn counts(open: [usize; 3], common: usize) -> Counts {

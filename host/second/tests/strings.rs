@@ -40,17 +40,17 @@ fn string_part(u: u8, this: u8, slen: u16, data: &[u8]) -> Vec<u8> {
 }
 
 fn receive(relay: &mut Second, time: u32, rest: &[u8]) -> Answer {
-    relay.receive(0, time, rest, &mut [0; 1024])
+    relay.receive(0, Some(time), rest, &mut [0; 1024])
 }
 
 /// The unit is 17: its bytes are used, and time, tables and output stay.
 fn assert_ill_formed(relay: &mut Second, time: u32, rest: &[u8]) {
     let before = relay.clone();
     let mut out = [0xEE; 1024];
-    let answer = relay.receive(0, time, rest, &mut out);
+    let answer = relay.receive(0, Some(time), rest, &mut out);
     let expected = Answer {
         used: rest.len(),
-        next: time,
+        next: Some(time),
         outcome: Outcome::Refused(17),
     };
     assert_eq!(answer, expected, "{rest:02X?}");
@@ -102,7 +102,7 @@ fn what_lies_behind_tlen_is_not_looked_at() {
     for (u, tlen, data) in samples {
         let answer = receive(&mut fresh(), 6, &whole(u, tlen, data));
         assert!(matches!(answer.outcome, Outcome::Whole(_)), "{data:02X?}");
-        assert_eq!(answer.next, 15);
+        assert_eq!(answer.next, Some(15));
     }
     assert_ill_formed(&mut fresh(), 6, &whole(0, 2, EURO));
 }
@@ -136,7 +136,7 @@ fn late_units_with_an_ill_formed_string_are_17() {
     let mut relay = fresh();
     receive(&mut relay, 6, &whole(0, 3, EURO));
     let late = receive(&mut relay, 6, &whole(0, 3, EURO));
-    assert_eq!((late.next, late.outcome), (15, Outcome::Refused(6)));
+    assert_eq!((late.next, late.outcome), (Some(15), Outcome::Refused(6)));
     assert_ill_formed(&mut relay, 6, &whole(0, 2, EURO));
     assert_ill_formed(&mut relay, 6, &string_part(0, 2, 2, &EURO[..2]));
 }
@@ -163,7 +163,7 @@ fn repeats_and_conflicts_with_an_ill_formed_string_are_17() {
         let answer = receive(&mut relay, time, &good);
         assert_eq!(
             (answer.next, answer.outcome),
-            (time + 9, Outcome::Refused(7))
+            (Some(time + 9), Outcome::Refused(7))
         );
         assert_ill_formed(&mut relay, time, &bad);
     }
@@ -178,7 +178,10 @@ fn oversize_units_with_an_ill_formed_string_are_17() {
     ];
     for [good, bad] in good_and_bad {
         let answer = receive(&mut fresh(), 6, &good);
-        assert_eq!((answer.next, answer.outcome), (15, Outcome::Refused(5)));
+        assert_eq!(
+            (answer.next, answer.outcome),
+            (Some(15), Outcome::Refused(5))
+        );
         assert_ill_formed(&mut fresh(), 6, &bad);
     }
 }

@@ -11,7 +11,7 @@ fn fresh(n: usize) -> Second {
 }
 
 fn receive(relay: &mut Second, desk: usize, time: u32, rest: &[u8]) -> Answer {
-    relay.receive(desk, time, rest, &mut [0; 1024])
+    relay.receive(desk, Some(time), rest, &mut [0; 1024])
 }
 
 fn whole(time: u32, sdur: u32, length: usize) -> Outcome {
@@ -48,7 +48,7 @@ fn cases_1_to_6_one_unit() {
         let answer = receive(&mut fresh(1), 0, time, rest);
         let expected = Answer {
             used,
-            next,
+            next: Some(next),
             outcome,
         };
         assert_eq!(answer, expected, "{rest:02X?}");
@@ -58,7 +58,7 @@ fn cases_1_to_6_one_unit() {
 #[test]
 fn case_1_puts_the_sample_in_front_and_leaves_the_rest() {
     let mut out = [0xEE; 1024];
-    fresh(1).receive(0, 1000, CASE_1, &mut out);
+    fresh(1).receive(0, Some(1000), CASE_1, &mut out);
     assert_eq!(&out[..2], b"Hi");
     assert!(out[2..].iter().all(|&byte| byte == 0xEE));
 }
@@ -70,7 +70,7 @@ fn cases_7_and_8_join_in_either_order() {
         let kept = receive(&mut relay, 0, 7, first);
         assert_eq!(kept.outcome, Outcome::Kept(1));
         let mut out = [0xEE; 1024];
-        let joined = relay.receive(0, 7, second, &mut out);
+        let joined = relay.receive(0, Some(7), second, &mut out);
         let facts = Facts {
             time: 7,
             u: 0,

@@ -10,7 +10,7 @@ pub struct Facts {
     pub u: u8,
     /// The index of its style.
     pub sidx: u8,
-    /// How long it lasts.
+    /// How long it lasts; 0 where that is not known yet.
     pub sdur: u32,
     /// The length of its string, in bytes, which are well-formed; what follows in the sample are
     /// modifiers.
@@ -55,39 +55,39 @@ impl Outcome {
 pub struct Answer {
     /// How many bytes of the rest the unit took.
     pub used: usize,
-    /// The running time for the next unit of the payload.
-    pub next: u32,
+    /// The running time for the next unit of the payload; `None` where it is unknown.
+    pub next: Option<u32>,
     /// What became of the unit.
     pub outcome: Outcome,
 }
 
 fn facts(row: &Row) -> Facts {
     Facts {
-        time: row[3] as u32,
-        u: row[4] as u8,
-        sidx: row[5] as u8,
-        sdur: row[6] as u32,
-        string: row[7] as usize,
-        sample: row[8] as usize,
+        time: row[4] as u32,
+        u: row[5] as u8,
+        sidx: row[6] as u8,
+        sdur: row[7] as u32,
+        string: row[8] as usize,
+        sample: row[9] as usize,
     }
 }
 
 impl Answer {
     /// The answer that the numbers of a row tell.
     pub(crate) fn told(row: &Row) -> Answer {
-        let outcome = match row[2] {
+        let outcome = match row[3] {
             0 => Outcome::End,
             1 => Outcome::Whole(facts(row)),
             2 => Outcome::Joined(facts(row)),
-            3 => Outcome::Kept(row[3] as usize),
+            3 => Outcome::Kept(row[4] as usize),
             4 => Outcome::Repeat,
             5 => Outcome::Described,
-            6 => Outcome::Skipped(row[3] as u8),
-            _ => Outcome::Refused(Refusal::told(row[3])),
+            6 => Outcome::Skipped(row[4] as u8),
+            _ => Outcome::Refused(Refusal::told(row[4])),
         };
         Answer {
             used: row[0] as usize,
-            next: row[1] as u32,
+            next: (row[1] != 0).then_some(row[2] as u32),
             outcome,
         }
     }

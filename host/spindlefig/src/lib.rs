@@ -3,8 +3,8 @@
 //! whole captions out; and it writes such payloads.
 //!
 //! Every call goes to a library that is proved to answer as the rule book says: document 01, with
-//! requests 1 and 2 of document 02. Nothing has to be checked beforehand: what is wrong is refused by
-//! its number, a [`Refusal`].
+//! requests 1, 2, 3 and 6 of document 02. Nothing has to be checked beforehand: what is wrong is
+//! refused by its number, a [`Refusal`].
 //!
 //! ```
 //! use spindlefig::{Caption, Relay, Writer};

@@ -1,15 +1,15 @@
 use std::error::Error;
 use std::fmt;
 
-/// Why a call is refused: document 01's sixteen refusals and the 17th, of request 1 in document 02,
-/// in the order of their numbers.
+/// Why a call is refused: document 01's sixteen refusals and those of document 02, the 17th of
+/// request 1 and the 18th of request 3, in the order of their numbers.
 ///
 /// ```
 /// use spindlefig::Refusal;
 ///
 /// assert_eq!(Refusal::Conflict.number(), 7);
 /// assert_eq!(Refusal::from_number(7), Some(Refusal::Conflict));
-/// assert_eq!(Refusal::from_number(18), None);
+/// assert_eq!(Refusal::from_number(19), None);
 /// assert_eq!(Refusal::Frame.to_string(), "refused 3: the unit is cut short");
 /// ```
 #[derive(Debug, Clone, Copy, PartialEq, Eq)]
@@ -49,9 +49,11 @@ pub enum Refusal {
     Book,
     /// 17: the string of the unit is not well-formed.
     IllFormed,
+    /// 18: a unit of TYPE 1 to 4 where the running time is unknown.
+    Untimed,
 }
 
-const ALL: [Refusal; 17] = [
+const ALL: [Refusal; 18] = [
     Refusal::Desk,
     Refusal::Output,
     Refusal::Frame,
@@ -69,15 +71,16 @@ const ALL: [Refusal; 17] = [
     Refusal::Box,
     Refusal::Book,
     Refusal::IllFormed,
+    Refusal::Untimed,
 ];
 
 impl Refusal {
-    /// Its number in the rules, 1 to 17.
+    /// Its number in the rules, 1 to 18.
     pub fn number(self) -> u8 {
         self as u8
     }
 
-    /// The refusal of a number, if it is 1 to 17.
+    /// The refusal of a number, if it is 1 to 18.
     pub fn from_number(number: u8) -> Option<Refusal> {
         let i = usize::from(number).checked_sub(1)?;
         ALL.get(i).copied()
@@ -88,7 +91,7 @@ impl Refusal {
         u8::try_from(number)
             .ok()
             .and_then(Refusal::from_number)
-            .expect("the library answers refusals 1 to 17")
+            .expect("the library answers refusals 1 to 18")
     }
 
     /// The reason in a few words, without the number.
@@ -111,6 +114,7 @@ impl Refusal {
             Refusal::Box => "no box stands there",
             Refusal::Book => "a record of the style book is bad",
             Refusal::IllFormed => "the string is not well-formed",
+            Refusal::Untimed => "the running time is not known",
         }
     }
 }

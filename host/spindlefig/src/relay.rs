@@ -24,14 +24,14 @@ pub const DESKS: usize = 8;
 /// let string = b"\x02\x00\x0b\x21\x00\x00\x64\x80\x00\x0eHi";
 /// let blink = b"\x03\x00\x12\x22\x00\x00\x64\x00\x00\x00\x0cblnk\x00\x00\x00\x01";
 ///
-/// let answer = relay.receive(0, 1000, string, &mut out);
+/// let answer = relay.receive(0, Some(1000), string, &mut out);
 /// assert_eq!(answer.outcome, Outcome::Kept(1));
 ///
-/// let answer = relay.receive(0, 1000, blink, &mut out);
+/// let answer = relay.receive(0, Some(1000), blink, &mut out);
 /// let facts = answer.outcome.facts().expect("the sample is joined");
 /// assert_eq!((facts.string, facts.sample), (2, 14));
 /// assert_eq!(&out[..facts.string], b"Hi");
-/// assert_eq!(answer.next, 1100);
+/// assert_eq!(answer.next, Some(1100));
 /// # Ok::<(), spindlefig::Refusal>(())
 /// ```
 ///
@@ -106,7 +106,7 @@ impl Relay {
     /// let part = b"\x02\x00\x0b\x21\x00\x00\x64\x80\x00\x0eHi";
     /// let mut relay = Relay::set_up(2)?;
     /// for time in [1000, 2000, 3000] {
-    ///     relay.receive(1, time, part, &mut [0; OUTPUT]);
+    ///     relay.receive(1, Some(time), part, &mut [0; OUTPUT]);
     /// }
     /// let counts = relay.counts();
     /// assert_eq!((counts.open[0], counts.open[1], counts.common), (0, 3, 1));
@@ -127,30 +127,53 @@ impl Relay {
     /// [`OUTPUT`] bytes at least; what lies behind it stays. The string of a TYPE 1 unit and the data
     /// of a TYPE 2 one have to be well-formed by themselves.
     ///
+    /// SDUR 0 is a duration that is not known yet: after a TYPE 1 unit or a last part with SDUR 0
+    /// that refusals 1 to 4 and 17 let through, `next` is `None`, an unknown time. There all that
+    /// they let through of TYPE 1 to 4 is [`Refusal::Untimed`], everything else is answered as ever,
+    /// and the time stays unknown.
+    ///
     /// ```
     /// use spindlefig::{Outcome, Refusal, Relay, OUTPUT};
     ///
     /// let mut relay = Relay::set_up(1)?;
     /// let mut out = [0; OUTPUT];
-    /// let answer = relay.receive(0, 1000, b"\x01\x00\x0a\x80\x01\x5f\x90\x00\x02Hi", &mut out);
-    /// assert_eq!((answer.used, answer.next), (11, 91000));
+    /// let whole = b"\x01\x00\x0a\x80\x01\x5f\x90\x00\x02Hi";
+    /// let answer = relay.receive(0, Some(1000), whole, &mut out);
+    /// assert_eq!((answer.used, answer.next), (11, Some(91000)));
     /// assert!(matches!(answer.outcome, Outcome::Whole(_)));
     /// assert_eq!(&out[..2], b"Hi");
     ///
-    /// let answer = relay.receive(0, 91000, b"\x01\x00\x01", &mut out);
+    /// let answer = relay.receive(0, Some(91000), b"\x01\x00\x01", &mut out);
     /// assert_eq!(answer.outcome, Outcome::Refused(Refusal::Frame));
     ///
     /// let half_a_letter = b"\x01\x00\x0a\x80\x01\x5f\x90\x00\x02n\xc3";
-    /// let answer = relay.receive(0, 91000, half_a_letter, &mut out);
-    /// assert_eq!((answer.used, answer.next), (11, 91000));
+    /// let answer = relay.receive(0, Some(91000), half_a_letter, &mut out);
+    /// assert_eq!((answer.used, answer.next), (11, Some(91000)));
     /// assert_eq!(answer.outcome, Outcome::Refused(Refusal::IllFormed));
+    ///
+    /// let live = b"\x01\x00\x0a\x80\x00\x00\x00\x00\x02Hi";
+    /// let answer = relay.receive(0, Some(91000), live, &mut out);
+    /// assert!(matches!(answer.outcome, Outcome::Whole(_)));
+    /// assert_eq!(answer.next, None);
+    /// let answer = relay.receive(0, answer.next, whole, &mut out);
+    /// assert_eq!((answer.used, answer.next), (11, None));
+    /// assert_eq!(answer.outcome, Outcome::Refused(Refusal::Untimed));
     /// # Ok::<(), Refusal>(())
     /// ```
-    pub fn receive(&mut self, desk: usize, time: u32, rest: &[u8], out: &mut [u8]) -> Answer {
-        Answer::told(&self.tables.receive(desk, time, rest, out))
+    pub fn receive(
+        &mut self,
+        desk: usize,
+        time: Option<u32>,
+        rest: &[u8],
+        out: &mut [u8],
+    ) -> Answer {
+        let known = usize::from(time.is_some());
+        let time = time.unwrap_or_default();
+        Answer::told(&self.tables.receive(desk, known, time, rest, out))
     }
 
-    /// Goes through the units of a payload, handing the running time on: one item a unit.
+    /// Goes through the units of a payload, handing the running time on: one item a unit. `time` is
+    /// the packet's timestamp, which is known.
     ///
     /// It ends at the payload's end, and after an answer that used no bytes (refusal 1). An empty
     /// payload has no units.
@@ -163,23 +186,45 @@ impl Relay {
     /// let heard: Vec<_> = relay.units(0, 0, payload).collect();
     /// assert_eq!(heard.len(), 2);
     /// assert_eq!(heard[0].sample, b"Hi");
-    /// assert_eq!((heard[1].at, heard[1].time), (11, 90000));
+    /// assert_eq!((heard[1].at, heard[1].time), (11, Some(90000)));
     /// assert_eq!(heard[1].answer.outcome, Outcome::Skipped(6));
     /// # Ok::<(), spindlefig::Refusal>(())
     /// ```
     pub fn units<'a>(&'a mut self, desk: usize, time: u32, payload: &'a [u8]) -> Units<'a> {
+        self.units_from(desk, Some(time), payload)
+    }
+
+    /// The same for what is left of a payload, from a running time that may be unknown.
+    ///
+    /// ```
+    /// use spindlefig::{Outcome, Refusal, Relay};
+    ///
+    /// let rest = b"\x01\x00\x0a\x80\x01\x5f\x90\x00\x02Hi\x06\x00\x02";
+    /// let mut relay = Relay::set_up(1)?;
+    /// let heard: Vec<_> = relay.units_from(0, None, rest).collect();
+    /// assert_eq!(heard[0].answer.outcome, Outcome::Refused(Refusal::Untimed));
+    /// assert_eq!((heard[1].at, heard[1].time), (11, None));
+    /// assert_eq!(heard[1].answer.outcome, Outcome::Skipped(6));
+    /// # Ok::<(), Refusal>(())
+    /// ```
+    pub fn units_from<'a>(
+        &'a mut self,
+        desk: usize,
+        time: Option<u32>,
+        rest: &'a [u8],
+    ) -> Units<'a> {
         Units {
             relay: self,
             desk,
             time,
-            payload,
+            payload: rest,
             at: 0,
             stopped: false,
         }
     }
 
-    /// Gives up the desk's open sample of this time: its place is free, and parts of it that come
-    /// now are late.
+    /// Gives up the desk's open sample of this time, which is a known one always: its place is free,
+    /// and parts of it that come now are late.
     ///
     /// ```
     /// use spindlefig::{Outcome, Refusal, Relay, OUTPUT};
@@ -187,11 +232,11 @@ impl Relay {
     /// let part = b"\x02\x00\x0b\x21\x00\x00\x64\x80\x00\x0eHi";
     /// let mut relay = Relay::set_up(1)?;
     /// let mut out = [0; OUTPUT];
-    /// assert_eq!(relay.receive(0, 1000, part, &mut out).outcome, Outcome::Kept(1));
+    /// assert_eq!(relay.receive(0, Some(1000), part, &mut out).outcome, Outcome::Kept(1));
     ///
     /// assert_eq!(relay.give_up(0, 1000), Ok(()));
     /// assert_eq!(relay.give_up(0, 1000), Err(Refusal::NotOpen));
-    /// let answer = relay.receive(0, 1000, part, &mut out);
+    /// let answer = relay.receive(0, Some(1000), part, &mut out);
     /// assert_eq!(answer.outcome, Outcome::Refused(Refusal::Late));
     /// # Ok::<(), Refusal>(())
     /// ```
@@ -209,7 +254,7 @@ impl Relay {
     /// use spindlefig::{Outcome, Relay, OUTPUT};
     ///
     /// let mut relay = Relay::set_up(2)?;
-    /// let answer = relay.receive(1, 0, b"\x05\x00\x08\x07green", &mut [0; OUTPUT]);
+    /// let answer = relay.receive(1, Some(0), b"\x05\x00\x08\x07green", &mut [0; OUTPUT]);
     /// assert_eq!(answer.outcome, Outcome::Described);
     /// assert_eq!(relay.lookup(1, 7, &[]), b"green");
     /// assert!(relay.lookup(0, 7, &[]).is_empty());
@@ -257,8 +302,8 @@ impl Relay {
 pub struct Heard {
     /// Where the unit begins in the payload.
     pub at: usize,
-    /// Its running time.
-    pub time: u32,
+    /// Its running time; `None` where it is unknown.
+    pub time: Option<u32>,
     /// The relay's answer.
     pub answer: Answer,
     /// The sample that is handed out, string and modifiers; empty but for whole and joined.
@@ -270,7 +315,7 @@ pub struct Heard {
 pub struct Units<'a> {
     relay: &'a mut Relay,
     desk: usize,
-    time: u32,
+    time: Option<u32>,
     payload: &'a [u8],
     at: usize,
     stopped: bool,

@@ -5,7 +5,7 @@ use crate::{Caption, Counts, Lent};
 use std::array;
 
 /// How many numbers an answer fills.
-pub(crate) const ROW: usize = 9;
+pub(crate) const ROW: usize = 10;
 
 pub(crate) type Row = [u64; ROW];
 
@@ -45,6 +45,7 @@ extern "C" {
         stores: *mut u8,
         stores_len: usize,
         desk: usize,
+        known: usize,
         time: u32,
         rest: *const u8,
         rest_len: usize,
@@ -227,7 +228,15 @@ impl Tables {
         before
     }
 
-    pub(crate) fn receive(&mut self, desk: usize, time: u32, rest: &[u8], out: &mut [u8]) -> Row {
+    /// `known` is 0 where the running time is unknown, and the time is not looked at then.
+    pub(crate) fn receive(
+        &mut self,
+        desk: usize,
+        known: usize,
+        time: u32,
+        rest: &[u8],
+        out: &mut [u8],
+    ) -> Row {
         let mut row = [0; ROW];
         // SAFETY: no pointer goes with more than its own slice's length, and set-up made the places.
         unsafe {
@@ -241,6 +250,7 @@ impl Tables {
                 self.stores.as_mut_ptr(),
                 self.lent.stores,
                 desk,
+                known,
                 time,
                 rest.as_ptr(),
                 rest.len(),
@@ -418,7 +428,7 @@ mod tests {
         let opening = [2, 0, 10, 0x21, 0, 0, 100, 128, 0, 2, b'a'];
         for time in 1..=3 {
             t.marks[MARKS_COMMON] = u32::MAX;
-            t.receive(0, time, &opening, &mut [0; crate::OUTPUT]);
+            t.receive(0, 1, time, &opening, &mut [0; crate::OUTPUT]);
         }
         let counts = |first, common| Counts {
             open: [first, 0, 0, 0, 0, 0, 0, 0],
@@ -429,5 +439,25 @@ mod tests {
         assert_eq!((t.give_up(0, 3), t.counts()), (0, counts(2, 0)));
         t.marks[MARKS_OPEN] = 0;
         assert_eq!((t.give_up(0, 2), t.counts()), (0, counts(0, 0)));
+    }
+
+    /// A line of unknown length, at a time: the time is unknown behind it. Where the time is unknown a
+    /// line that lasts is 18.
+    #[test]
+    fn a_row_tells_whether_the_next_time_is_known() {
+        let mut t = Tables::zeros(1);
+        assert_eq!(t.make_fresh(1), 0);
+        let mut row = |known, time, sdur| {
+            let unit = [1, 0, 9, 128, 0, 0, sdur, 0, 1, b'a'];
+            t.receive(0, known, time, &unit, &mut [0; crate::OUTPUT])
+        };
+        assert_eq!(row(1, 7, 5), [10, 1, 12, 1, 7, 0, 128, 5, 1, 1]);
+        assert_eq!(row(1, 8, 0), [10, 0, 0, 1, 8, 0, 128, 0, 1, 1]);
+        for time in [0, 8, 12, u32::MAX] {
+            assert_eq!(row(0, time, 5), [10, 0, 0, 7, 18, 0, 0, 0, 0, 0]);
+        }
+        for known in [1, 2, usize::MAX] {
+            assert_eq!(row(known, 7, 5), [10, 1, 12, 7, 6, 0, 0, 0, 0, 0]);
+        }
     }
 }

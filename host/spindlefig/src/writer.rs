@@ -11,7 +11,7 @@ pub struct Caption<'a> {
     pub u: usize,
     /// The index of its style, 0 to 254.
     pub sidx: usize,
-    /// How long it lasts, below 2 to the 24th.
+    /// How long it lasts, below 2 to the 24th; 0 where that is not known yet.
     pub sdur: usize,
     /// Its text.
     pub string: &'a [u8],

@@ -1,7 +1,7 @@
 //! What only a caller in Rust can ask of the relay.
 
 use spindlefig::{
-    Caption, Counts, Lent, Outcome, Refusal, Relay, Writer, DESCRIPTION, DESKS, OUTPUT,
+    Answer, Caption, Counts, Lent, Outcome, Refusal, Relay, Writer, DESCRIPTION, DESKS, OUTPUT,
 };
 
 const HI: &[u8] = b"\x01\x00\x0a\x80\x01\x5f\x90\x00\x02Hi";
@@ -10,9 +10,9 @@ const HI: &[u8] = b"\x01\x00\x0a\x80\x01\x5f\x90\x00\x02Hi";
 fn a_short_output_is_refused_and_uses_nothing() {
     let mut relay = Relay::set_up(1).unwrap();
     let mut out = [7; OUTPUT - 1];
-    let answer = relay.receive(0, 1000, HI, &mut out);
+    let answer = relay.receive(0, Some(1000), HI, &mut out);
     assert_eq!(answer.outcome, Outcome::Refused(Refusal::Output));
-    assert_eq!((answer.used, answer.next), (0, 1000));
+    assert_eq!((answer.used, answer.next), (0, Some(1000)));
     assert_eq!(out, [7; OUTPUT - 1]);
 }
 
@@ -20,7 +20,7 @@ fn a_short_output_is_refused_and_uses_nothing() {
 fn what_lies_behind_the_sample_stays() {
     let mut relay = Relay::set_up(1).unwrap();
     let mut out = [7; OUTPUT + 1];
-    relay.receive(0, 1000, HI, &mut out);
+    relay.receive(0, Some(1000), HI, &mut out);
     assert_eq!(&out[..2], b"Hi");
     assert!(out[2..].iter().all(|byte| *byte == 7));
 }
@@ -37,9 +37,9 @@ fn units_end_where_no_bytes_are_used() {
 #[test]
 fn an_empty_rest_is_the_end() {
     let mut relay = Relay::set_up(1).unwrap();
-    let answer = relay.receive(0, 5, b"", &mut [0; OUTPUT]);
+    let answer = relay.receive(0, Some(5), b"", &mut [0; OUTPUT]);
     assert_eq!(answer.outcome, Outcome::End);
-    assert_eq!((answer.used, answer.next), (0, 5));
+    assert_eq!((answer.used, answer.next), (0, Some(5)));
 }
 
 #[test]
@@ -47,10 +47,10 @@ fn a_clone_goes_its_own_way() {
     let mut relay = Relay::set_up(8).unwrap();
     let mut other = relay.clone();
     let mut out = [0; OUTPUT];
-    let first = relay.receive(7, 1000, HI, &mut out).outcome;
-    let late = relay.receive(7, 1000, HI, &mut out).outcome;
+    let first = relay.receive(7, Some(1000), HI, &mut out).outcome;
+    let late = relay.receive(7, Some(1000), HI, &mut out).outcome;
     assert_eq!(late, Outcome::Refused(Refusal::Late));
-    assert_eq!(other.receive(7, 1000, HI, &mut out).outcome, first);
+    assert_eq!(other.receive(7, Some(1000), HI, &mut out).outcome, first);
 }
 
 /// All the memory of two desks, with the number that set-up leaves.
@@ -67,9 +67,13 @@ fn is_refused(relay: &mut Relay, lent: Lent) -> bool {
     relay.lending(lent, |relay| {
         let before = relay.clone();
         let mut out = [7; OUTPUT];
-        let answer = relay.receive(0, 1000, HI, &mut out);
-        let refused = answer.outcome == Outcome::Refused(Refusal::Desk)
-            && (answer.used, answer.next) == (0, 1000)
+        let one = Answer {
+            used: 0,
+            next: Some(1000),
+            outcome: Outcome::Refused(Refusal::Desk),
+        };
+        let refused = relay.receive(0, Some(1000), HI, &mut out) == one
+            && relay.receive(0, None, HI, &mut out) == Answer { next: None, ..one }
             && relay.give_up(0, 1000) == Err(Refusal::Desk)
             && relay.lookup(0, 7, &[]).is_empty();
         refused && out == [7; OUTPUT] && *relay == before
@@ -79,7 +83,7 @@ fn is_refused(relay: &mut Relay, lent: Lent) -> bool {
 #[test]
 fn a_head_that_is_not_1_to_8_is_refused() {
     let mut relay = Relay::set_up(2).unwrap();
-    relay.receive(0, 0, b"\x05\x00\x08\x07green", &mut [0; OUTPUT]);
+    relay.receive(0, Some(0), b"\x05\x00\x08\x07green", &mut [0; OUTPUT]);
     for head in [0, 9, 255, 256 + 2, u32::MAX] {
         assert!(is_refused(&mut relay, Lent { head, ..TWO }), "{head}");
     }
@@ -103,7 +107,7 @@ fn memory_too_short_for_the_head_is_refused() {
     }
     let stores = TWO.stores - 1;
     let answer = relay.lending(Lent { stores, ..TWO }, |relay| {
-        relay.receive(0, 5, HI, &mut [0; OUTPUT])
+        relay.receive(0, Some(5), HI, &mut [0; OUTPUT])
     });
     assert_eq!(answer.outcome, Outcome::Refused(Refusal::Desk));
 }
@@ -119,7 +123,7 @@ const SPOILED: &[u8] = b"\x03\x00\x07\x11\x00\x00\x01A";
 
 /// What is stored after a unit of a desk: the open samples of desks 0 and 1, and the common use.
 fn stored_after(relay: &mut Relay, desk: usize, time: u32, unit: &[u8]) -> [usize; 3] {
-    relay.receive(desk, time, unit, &mut [0; OUTPUT]);
+    relay.receive(desk, Some(time), unit, &mut [0; OUTPUT]);
     stored(relay)
 }
 
@@ -164,7 +168,7 @@ fn the_stored_counts_stay_where_nothing_is_open_longer_than_the_call() {
         (1, 8, SPOILED, Refusal::Common),
     ];
     for (desk, time, unit, refusal) in refused {
-        let answer = relay.receive(desk, time, unit, &mut [0; OUTPUT]);
+        let answer = relay.receive(desk, Some(time), unit, &mut [0; OUTPUT]);
         assert_eq!(answer.outcome, Outcome::Refused(refusal));
         assert_eq!(stored(&relay), [6, 2, 4]);
     }
@@ -176,13 +180,13 @@ fn the_stored_counts_stay_where_nothing_is_open_longer_than_the_call() {
 fn the_stored_counts_stay_where_a_sample_opens_and_ends_in_one_call() {
     let mut relay = Relay::set_up(2).unwrap();
     let open = stored_after(&mut relay, 1, 1, FIRST);
-    let alone = relay.receive(1, 7, ALONE, &mut [0; OUTPUT]);
+    let alone = relay.receive(1, Some(7), ALONE, &mut [0; OUTPUT]);
     assert!(matches!(alone.outcome, Outcome::Joined(_)));
     assert_eq!(stored(&relay), open);
-    let spoiled = relay.receive(1, 8, SPOILED, &mut [0; OUTPUT]);
+    let spoiled = relay.receive(1, Some(8), SPOILED, &mut [0; OUTPUT]);
     assert_eq!(spoiled.outcome, Outcome::Refused(Refusal::Spoiled));
     assert_eq!(stored(&relay), open);
-    let whole = relay.receive(1, 9, HI, &mut [0; OUTPUT]);
+    let whole = relay.receive(1, Some(9), HI, &mut [0; OUTPUT]);
     assert!(matches!(whole.outcome, Outcome::Whole(_)));
     assert_eq!(stored(&relay), open);
 }
@@ -195,7 +199,7 @@ fn the_longest_description_comes_back() {
         .describe(127, &long, 1, &mut payload)
         .unwrap();
     let mut relay = Relay::set_up(3).unwrap();
-    let described = relay.receive(2, 0, &payload[..written.len], &mut [0; OUTPUT]);
+    let described = relay.receive(2, Some(0), &payload[..written.len], &mut [0; OUTPUT]);
     assert_eq!(described.outcome, Outcome::Described);
     assert_eq!(relay.lookup(2, 127, &[]), long);
     assert!(relay.lookup(2, 255, &[]).is_empty());
@@ -218,10 +222,10 @@ fn the_largest_caption_comes_back_from_fifteen_parts_in_any_order() {
     for payload in payloads.iter().rev() {
         heard.extend(relay.units(0, u32::MAX, payload));
     }
-    assert_eq!(heard[0].answer.next, 0xff_fffe);
+    assert_eq!(heard[0].answer.next, Some(0xff_fffe));
     let last = heard.pop().unwrap();
     assert_eq!(last.sample, [caption.string, caption.modifiers].concat());
-    assert_eq!(last.answer.next, u32::MAX);
+    assert_eq!(last.answer.next, Some(u32::MAX));
     assert!(heard.iter().all(|earlier| earlier.sample.is_empty()));
 }
 
@@ -229,10 +233,11 @@ fn the_largest_caption_comes_back_from_fifteen_parts_in_any_order() {
 fn assert_ill_formed(relay: &mut Relay, rest: &[u8]) {
     let before = relay.clone();
     let mut out = [7; OUTPUT];
-    let answer = relay.receive(0, 6, rest, &mut out);
+    let answer = relay.receive(0, Some(6), rest, &mut out);
     let refused = Outcome::Refused(Refusal::IllFormed);
     assert_eq!(answer.outcome, refused, "{rest:02x?}");
-    assert_eq!((answer.used, answer.next), (rest.len(), 6), "{rest:02x?}");
+    let told = (answer.used, answer.next);
+    assert_eq!(told, (rest.len(), Some(6)), "{rest:02x?}");
     assert!(*relay == before && out == [7; OUTPUT], "{rest:02x?}");
 }
 
@@ -242,7 +247,7 @@ fn an_ill_formed_string_is_refused_before_it_is_late_or_too_long() {
     let head = b"\x01\x04\x09\x80\x00\x00\x09\x04\x01";
     let long = [&head[..], &[0xff; 1025]].concat();
     assert_ill_formed(&mut relay, &long);
-    relay.receive(0, 6, HI, &mut [0; OUTPUT]);
+    relay.receive(0, Some(6), HI, &mut [0; OUTPUT]);
     assert_ill_formed(&mut relay, &long);
     assert_ill_formed(&mut relay, b"\x81\x00\x0b\x80\x00\x00\x09\x00\x03\x00H\x00");
 }
@@ -259,7 +264,7 @@ fn each_string_part_is_well_formed_by_itself() {
         assert_ill_formed(&mut relay, half);
     }
     let euro = b"\x02\x00\x0c\x11\x00\x00\x09\x80\x00\x03\xe2\x82\xac";
-    let joined = relay.receive(0, 6, euro, &mut [0; OUTPUT]);
+    let joined = relay.receive(0, Some(6), euro, &mut [0; OUTPUT]);
     assert_eq!(joined.outcome.facts().map(|facts| facts.string), Some(3));
 }
 

@@ -19,4 +19,4 @@ put-facts-spec =
     (λ c κs. search needs)
     (λ c κs. search needs)
     (λ c. search needs)
-    (λ c. ((c .before .before .put-at6 .ensures) ∙ ap (λ (l : List ℕ). set l 8 (c .before .before .before .before .before .before .before .before .before .before .before .before .before .before .before .before .before .before .before .before .before .before .before .before .before .before .args .f .sample)) ((c .before .before .before .before .before .before .put-at5 .ensures) ∙ ap (λ (l : List ℕ). set l 7 (c .before .before .before .before .before .before .before .before .before .before .before .before .before .before .before .before .before .before .before .before .before .before .before .before .before .before .args .f .string)) ((c .before .before .before .before .before .before .before .before .before .before .put-at4 .ensures) ∙ ap (λ (l : List ℕ). set l 6 (c .before .before .before .before .before .before .before .before .before .before .before .before .before .before .before .before .before .before .before .before .before .before .before .before .before .before .args .f .sdur)) ((c .before .before .before .before .before .before .before .before .before .before .before .before .before .before .put-at3 .ensures) ∙ ap (λ (l : List ℕ). set l 5 (c .before .before .before .before .before .before .before .before .before .before .before .before .before .before .before .before .before .before .before .before .before .before .before .before .before .before .args .f .sidx)) ((c .before .before .before .before .before .before .before .before .before .before .before .before .before .before .before .before .before .before .put-at2 .ensures) ∙ ap (λ (l : List ℕ). set l 4 (c .before .before .before .before .before .before .before .before .before .before .before .before .before .before .before .before .before .before .before .before .before .before .before .before .before .before .args .f .u)) (c .before .before .before .before .before .before .before .before .before .before .before .before .before .before .before .before .before .before .before .before .before .before .put-at .ensures))))))))
+    (λ c. ((c .before .before .put-at6 .ensures) ∙ ap (λ (l : List ℕ). set l 9 (c .before .before .before .before .before .before .before .before .before .before .before .before .before .before .before .before .before .before .before .before .before .before .before .before .before .before .args .f .sample)) ((c .before .before .before .before .before .before .put-at5 .ensures) ∙ ap (λ (l : List ℕ). set l 8 (c .before .before .before .before .before .before .before .before .before .before .before .before .before .before .before .before .before .before .before .before .before .before .before .before .before .before .args .f .string)) ((c .before .before .before .before .before .before .before .before .before .before .put-at4 .ensures) ∙ ap (λ (l : List ℕ). set l 7 (c .before .before .before .before .before .before .before .before .before .before .before .before .before .before .before .before .before .before .before .before .before .before .before .before .before .before .args .f .sdur)) ((c .before .before .before .before .before .before .before .before .before .before .before .before .before .before .put-at3 .ensures) ∙ ap (λ (l : List ℕ). set l 6 (c .before .before .before .before .before .before .before .before .before .before .before .before .before .before .before .before .before .before .before .before .before .before .before .before .before .before .args .f .sidx)) ((c .before .before .before .before .before .before .before .before .before .before .before .before .before .before .before .before .before .before .put-at2 .ensures) ∙ ap (λ (l : List ℕ). set l 5 (c .before .before .before .before .before .before .before .before .before .before .before .before .before .before .before .before .before .before .before .before .before .before .before .before .before .before .args .f .u)) (c .before .before .before .before .before .before .before .before .before .before .before .before .before .before .before .before .before .before .before .before .before .before .put-at .ensures))))))))

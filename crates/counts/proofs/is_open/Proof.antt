@@ -40,9 +40,9 @@ use Rattle.walks.proofs.Passed.{landed}
 use Rattle.walks.proofs.Steps.{calls-said, envAt, free-under}
 use Rattle.laws.specs.Rows.{_⇒_⁏_, _<?_, _=?_}
 use Rattle.laws.specs.Table.{seek, count}
-use Rattle.paper.specs.declared.Name.{Name}
-use Rattle.paper.proofs.Name as Q
-use Rattle.paper.proofs.Name.Laws as Q′
+use Rattle.paper.specs.declared.Sender.{Sender}
+use Rattle.paper.proofs.Sender as Q
+use Rattle.paper.proofs.Sender.Laws as Q′
 use Rattle.sample.specs.declared.Place.{Place}
 use Rattle.sample.proofs.Place as P
 use Rattle.memory.specs.Table.{isAt}
@@ -74,19 +74,19 @@ module _ {M : Type 1} (𝓤 : URA M) (H : Heap 𝓤) (A : Atoms 𝓤) (mem : Mem
   abbrev Find : Contract 𝓤
   Find = tripleOf 𝓤 H A find.signature (find.spec 𝓤 H A mem run)
 
-module _ {M : Type 1} (𝓤 : URA M) (H : Heap 𝓤) (A : Atoms 𝓤) (W : Given 𝓤 H A) (mem : Memory → SProp 𝓤) (run : Routine → Fun 𝓤) (κ : Lft) (q : Share) (b o : ℕ) (γ : GName) (ys : List Place) (m : ℕ) (who : Name) where
+module _ {M : Type 1} (𝓤 : URA M) (H : Heap 𝓤) (A : Atoms 𝓤) (W : Given 𝓤 H A) (mem : Memory → SProp 𝓤) (run : Routine → Fun 𝓤) (κ : Lft) (q : Share) (b o : ℕ) (γ : GName) (ys : List Place) (m : ℕ) (who : Sender) where
   abbrev x : RefT (List Place)
   x = Ref b o γ ys
 
   abbrev v : Val
   v = sliceVal (b, o) (length ys)
 
-  -- the name's machine value
+  -- the sender's machine value
   abbrev w : Val
   w = LL.val Q.the-type Q′.the-laws who
 
   abbrev Arg : Type 0
-  Arg = RefT (List Place) × (ℕ × (Name × Unit {0}))
+  Arg = RefT (List Place) × (ℕ × (Sender × Unit {0}))
 
   abbrev a : Arg
   a = (x, (m, (who, tt)))

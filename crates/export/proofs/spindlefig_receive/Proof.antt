@@ -28,17 +28,17 @@ use Rattle.sample.proofs.Place as P
 use denote.Builtin.{u8, u32, u64}
 use lib.Seq.{sets}
 use denote.Slice.{slice-vals}
-use Rattle.paper.specs.declared.Name.{Name}
+use Rattle.paper.specs.declared.Sender.{Sender}
 use Rattle.paper.specs.declared.Answer.{Answer}
 use Rattle.memory.specs.Relay.{Done, done as done-of, receivedAt, tables as lent-tables}
-use Rattle.numbers.specs.Numbers.{nameOf}
+use Rattle.numbers.specs.Numbers.{sentBy}
 use Rattle.answers.specs.Answers.{answerRow}
 use Rattle.export.specs.Export.{rowed, doneAs}
-use Rattle.relay.proofs.Values.{name, answer}
-use Rattle.numbers.proofs.name_of as pack′
-use Rattle.numbers.proofs.name_of.Symbol as pack′-def
-use Rattle.numbers.proofs.name_of.Symbol.{name as #pack′}
-use Rattle.numbers.proofs.name_of.Met as pack′-thm
+use Rattle.relay.proofs.Values.{sender, answer}
+use Rattle.numbers.proofs.sent_by as pack′
+use Rattle.numbers.proofs.sent_by.Symbol as pack′-def
+use Rattle.numbers.proofs.sent_by.Symbol.{name as #pack′}
+use Rattle.numbers.proofs.sent_by.Met as pack′-thm
 use Rattle.relay.proofs.receive as main′
 use Rattle.relay.proofs.receive.Symbol as main′-def
 use Rattle.relay.proofs.receive.Symbol.{name as #main′}
@@ -57,8 +57,8 @@ module _ {M : Type 1} (𝓤 : URA M) (H : Heap 𝓤) (A : Atoms 𝓤) (mem : Mem
   Mine = record {
     lifetimes = 7;
     bounds = [];
-    params = gives 0 tt P.the-row ∷ gives 1 tt u32 ∷ gives 2 tt u32 ∷ gives 3 tt u8 ∷ value (number w64) ∷ value (number w32) ∷ shares 4 tt
-        u8 ∷ gives 5 tt u8 ∷ gives 6 tt u64 ∷ [];
+    params = gives 0 tt P.the-row ∷ gives 1 tt u32 ∷ gives 2 tt u32 ∷ gives 3 tt u8 ∷ value (number w64) ∷ value (number w64) ∷ value (number w32)
+        ∷ shares 4 tt u8 ∷ gives 5 tt u8 ∷ gives 6 tt u64 ∷ [];
     result = number w64;
     clauses = me.clauses 𝓤 H A mem run;
   }
@@ -67,8 +67,8 @@ module _ {M : Type 1} (𝓤 : URA M) (H : Heap 𝓤) (A : Atoms 𝓤) (mem : Mem
   Pack = record {
     lifetimes = 0;
     bounds = [];
-    params = value (number w64) ∷ value (number w32) ∷ [];
-    result = name;
+    params = value (number w64) ∷ value (number w64) ∷ value (number w32) ∷ [];
+    result = sender;
     clauses = pack′.clauses 𝓤 H A mem run;
   }
 
@@ -76,7 +76,7 @@ module _ {M : Type 1} (𝓤 : URA M) (H : Heap 𝓤) (A : Atoms 𝓤) (mem : Mem
   Main = record {
     lifetimes = 6;
     bounds = [];
-    params = gives 0 tt P.the-row ∷ gives 1 tt u32 ∷ gives 2 tt u32 ∷ gives 3 tt u8 ∷ value name ∷ shares 4 tt u8 ∷ gives 5 tt u8 ∷ [];
+    params = gives 0 tt P.the-row ∷ gives 1 tt u32 ∷ gives 2 tt u32 ∷ gives 3 tt u8 ∷ value sender ∷ shares 4 tt u8 ∷ gives 5 tt u8 ∷ [];
     result = answer;
     clauses = main′.clauses 𝓤 H A mem run;
   }
@@ -95,11 +95,11 @@ module _ {M : Type 1} (𝓤 : URA M) (H : Heap 𝓤) (A : Atoms 𝓤) (mem : Mem
       (known-pack : Triple 𝓤 (𝓣 .C #pack′) (contractOf 𝓤 H A Pack))
       (known-main : Triple 𝓤 (𝓣 .C #main′) (contractOf 𝓤 H A Main)) (known-last : Triple 𝓤 (𝓣 .C #last′) (contractOf 𝓤 H A Last))
       (κs : Lfts 7) (qs : Shares 7) (a : Args me.signature κs) (are : Fitting 𝓤 H A Mine κs a) (b : ℕ → ℕ) where
-    abbrev who : Name
-    who = nameOf (a .1 .1 .1 .1 .0) (a .1 .1 .1 .1 .1 .0)
+    abbrev who : Sender
+    who = sentBy (a .1 .1 .1 .1 .0) (a .1 .1 .1 .1 .1 .0) (a .1 .1 .1 .1 .1 .1 .0)
 
     abbrev row : RefT (List ℕ)
-    row = a .1 .1 .1 .1 .1 .1 .1 .1 .0
+    row = a .1 .1 .1 .1 .1 .1 .1 .1 .1 .0
 
     abbrev vs : Vals me.signature κs
     vs = valued-of 𝓤 H A Mine κs a
@@ -109,20 +109,21 @@ module _ {M : Type 1} (𝓤 : URA M) (H : Heap 𝓤) (A : Atoms 𝓤) (mem : Mem
     Left-is r places′ rows′ marks′ stores′ out′ =
         done-of (lent-tables places′ rows′ marks′ stores′) out′ r
         ≡ receivedAt (lent-tables (now (a .0)) (now (a .1 .0)) (now (a .1 .1 .0)) (now (a .1 .1 .1 .0))) who
-        (now (a .1 .1 .1 .1 .1 .1 .0)) (now (a .1 .1 .1 .1 .1 .1 .1 .0))
+        (now (a .1 .1 .1 .1 .1 .1 .1 .0)) (now (a .1 .1 .1 .1 .1 .1 .1 .1 .0))
 
     walk : Begins 𝓤 H A Mine W 𝓣 code.function κs qs tt a tt b
     walk =
         -- [the frame; the tokens; the slices]
-        -- `numbers::name_of`
-        calls-known ! (fmOf 𝓤 H (W .laws) 𝓣) Pack known-pack tt tt tt (a .1 .1 .1 .1 .0, (a .1 .1 .1 .1 .1 .0, tt))
-        (vs .1 .1 .1 .1 .0, (vs .1 .1 .1 .1 .1 .0, tt)) tt
-        (id⊢ 𝓤 _) (are .1 .1 .1 .1 .0, (are .1 .1 .1 .1 .1 .0, tt)) who (λ x _. id⊢ 𝓤 _) (0 ∷ []) refl refl tt refl (λ _ is-who _.
+        -- `numbers::sent_by`
+        calls-known ! (fmOf 𝓤 H (W .laws) 𝓣) Pack known-pack tt tt tt
+        (a .1 .1 .1 .1 .0, (a .1 .1 .1 .1 .1 .0, (a .1 .1 .1 .1 .1 .1 .0, tt)))
+        (vs .1 .1 .1 .1 .0, (vs .1 .1 .1 .1 .1 .0, (vs .1 .1 .1 .1 .1 .1 .0, tt))) tt
+        (id⊢ 𝓤 _) (are .1 .1 .1 .1 .0, (are .1 .1 .1 .1 .1 .0, (are .1 .1 .1 .1 .1 .1 .0, tt))) who (λ x _. id⊢ 𝓤 _) (0 ∷ []) refl refl tt refl (λ _ is-who _.
         reborrows ! (are .0 .0 .1 .0) refl tt $ reborrows ! (are .1 .0 .0 .1 .0) refl tt $ reborrows ! (are .1 .1 .0 .0 .1 .0) refl tt $
-        reborrows ! (are .1 .1 .1 .0 .0 .1 .0) refl tt $ reborrows ! (are .1 .1 .1 .1 .1 .1 .1 .0 .0 .1 .0) refl tt $
+        reborrows ! (are .1 .1 .1 .0 .0 .1 .0) refl tt $ reborrows ! (are .1 .1 .1 .1 .1 .1 .1 .1 .0 .0 .1 .0) refl tt $
         -- `relay::receive`
         calls-lent ! (fmOf 𝓤 H (W .laws) 𝓣) Main known-main (leading 6 7 κs) (leading-shares 6 7 qs) tt
-        (a .0, (a .1 .0, (a .1 .1 .0, (a .1 .1 .1 .0, (who, (a .1 .1 .1 .1 .1 .1 .0, (a .1 .1 .1 .1 .1 .1 .1 .0, tt))))))) (
+        (a .0, (a .1 .0, (a .1 .1 .0, (a .1 .1 .1 .0, (who, (a .1 .1 .1 .1 .1 .1 .1 .0, (a .1 .1 .1 .1 .1 .1 .1 .1 .0, tt))))))) (
           vs .0,
           (
             vs .1 .0,
@@ -131,8 +132,8 @@ module _ {M : Type 1} (𝓤 : URA M) (H : Heap 𝓤) (A : Atoms 𝓤) (mem : Mem
               (
                 vs .1 .1 .1 .0,
                 (
-                  name .val who ∷ [],
-                  (vs .1 .1 .1 .1 .1 .1 .0, (vs .1 .1 .1 .1 .1 .1 .1 .0, tt)),
+                  sender .val who ∷ [],
+                  (vs .1 .1 .1 .1 .1 .1 .1 .0, (vs .1 .1 .1 .1 .1 .1 .1 .1 .0, tt)),
                 ),
               ),
             ),
@@ -141,7 +142,7 @@ module _ {M : Type 1} (𝓤 : URA M) (H : Heap 𝓤) (A : Atoms 𝓤) (mem : Mem
         (λ r ws. Left-is r (ws .0) (ws .1 .0) (ws .1 .1 .0) (ws .1 .1 .1 .0) (ws .1 .1 .1 .1 .1 .1 .0)) (λ r ws. id⊢ 𝓤 _)
         (0 ∷ 1 ∷ 2 ∷ 3 ∷ 4 ∷ 5 ∷ 6 ∷ 8 ∷ 9 ∷ 10 ∷ 11 ∷ 12 ∷ 13 ∷ []) refl refl tt refl (λ r ws is-r e long.
         -- [the frame; six tokens; what says each last list; the token of the row; the row]
-        reborrows ! (are .1 .1 .1 .1 .1 .1 .1 .1 .0 .0 .1 .0) refl tt $
+        reborrows ! (are .1 .1 .1 .1 .1 .1 .1 .1 .1 .0 .0 .1 .0) refl tt $
         -- `answers::put_answer`
         calls-lent ! (fmOf 𝓤 H (W .laws) 𝓣) Last known-last (κs .1 .1 .1 .1 .1 .1) (qs .1 .1 .1 .1 .1 .1) tt (row, (r, tt))
         (slice-vals row, (answer .val r ∷ [], tt)) tt
@@ -153,7 +154,7 @@ module _ {M : Type 1} (𝓤 : URA M) (H : Heap 𝓤) (A : Atoms 𝓤) (mem : Mem
             ws .1 .0,
             (
               ws .1 .1 .0,
-              (ws .1 .1 .1 .0, (tt, (tt, (tt, (ws .1 .1 .1 .1 .1 .1 .0, (ks .0, tt)))))),
+              (ws .1 .1 .1 .0, (tt, (tt, (tt, (tt, (ws .1 .1 .1 .1 .1 .1 .0, (ks .0, tt))))))),
             ),
           ),
         ) is-x
@@ -171,7 +172,7 @@ spindlefig-receive-spec 𝓤 H 𝓜 𝓖 𝓡 =
     (tt, λ κs b. refl)
     (λ κs a qs _ _. walk 𝓤 H (𝓖 .A) (𝓜 .mem) (𝓡 .run) (givenOf 𝓤 H 𝓜 𝓖) (tablesOf 𝓤 H 𝓜 (tables 𝓤 H 𝓜 𝓡 code.env))
     (cited 𝓤 H (contractOf 𝓤 H (𝓖 .A) (Pack 𝓤 H (𝓖 .A) (𝓜 .mem) (𝓡 .run))) 𝓜 𝓡 code.env #pack′ pack′-def.routine
-    code.calls-numbers·name-of (pack′-thm.met 𝓤 H 𝓜 𝓖 𝓡))
+    code.calls-numbers·sent-by (pack′-thm.met 𝓤 H 𝓜 𝓖 𝓡))
     (cited 𝓤 H (contractOf 𝓤 H (𝓖 .A) (Main 𝓤 H (𝓖 .A) (𝓜 .mem) (𝓡 .run))) 𝓜 𝓡 code.env #main′ main′-def.routine
     code.calls-relay·receive (main′-thm.met 𝓤 H 𝓜 𝓖 𝓡))
     (cited 𝓤 H (contractOf 𝓤 H (𝓖 .A) (Last 𝓤 H (𝓖 .A) (𝓜 .mem) (𝓡 .run))) 𝓜 𝓡 code.env #last′ last′-def.routine

@@ -1,7 +1,8 @@
 -- `finds::is_of` meets its contract: whichever test is made first, all three decide. Assumes nothing.
-use mathlib.Core.Path.{_≡_, refl, sym}
+use mathlib.Core.Path.{_≡_, refl, sym, _∙_}
 use mathlib.Core.Bool.{Bool, true, false}
-use Rattle.laws.specs.Rows.{_⇒_⁏_, _and_, _=?_, no, eq, ne}
+use borrow.Author.Needs.{needs}
+use Rattle.laws.specs.Rows.{_⇒_⁏_, _and_, _=?_, no}
 use Rattle.table.proofs.Facts.{fails}
 use Rattle.finds.proofs.is_of.Statement.{statement}
 use Rattle.finds.proofs.is_of.Tie as tie
@@ -18,6 +19,7 @@ unfolding _=?_
 is-of-spec =
     tie.close
     (tie.spec
-    (λ c. holds _ _ _ (c .if2 .taken) (eq _ _ (c .before .if1 .taken)))
+    (λ c κs. search needs)
+    (λ c. holds _ _ _ (c .if2 .taken) (sym (c .before .before .bears .ensures) ∙ c .before .if1 .taken))
     (λ c. no _ _ (c .if2 .left) refl)
-    (λ c. fails _ _ _ (ne _ _ (c .if1 .left))))
+    (λ c. fails _ _ _ (sym (c .before .bears .ensures) ∙ c .if1 .left)))

@@ -33,7 +33,7 @@ use Rattle.paper.specs.declared.Answer.{Answer}
 use Rattle.held.specs.Held.{called}
 use Rattle.held.specs.declared.Called.{Called}
 use Rattle.memory.specs.Relay.{done as done-of, receivedAt, tables as lent-tables}
-use Rattle.relay.proofs.Values.{place, name, answer}
+use Rattle.relay.proofs.Values.{place, sender, answer}
 use Rattle.held.proofs.Table.{room32, table, called-row}
 use Rattle.relay.proofs.receive as main′
 use Rattle.relay.proofs.receive.Symbol as main′-def
@@ -53,7 +53,7 @@ module _ {M : Type 1} (𝓤 : URA M) (H : Heap 𝓤) (A : Atoms 𝓤) (mem : Mem
   Mine = record {
     lifetimes = 5;
     bounds = [];
-    params = value table ∷ gives 0 tt u32 ∷ gives 1 tt u32 ∷ gives 2 tt u8 ∷ value name ∷ shares 3 tt u8 ∷ gives
+    params = value table ∷ gives 0 tt u32 ∷ gives 1 tt u32 ∷ gives 2 tt u8 ∷ value sender ∷ shares 3 tt u8 ∷ gives
         4 tt u8 ∷ [];
     result = called-row;
     clauses = me.clauses 𝓤 H A mem run;
@@ -63,7 +63,7 @@ module _ {M : Type 1} (𝓤 : URA M) (H : Heap 𝓤) (A : Atoms 𝓤) (mem : Mem
   Main = record {
     lifetimes = 6;
     bounds = [];
-    params = gives 0 tt P.the-row ∷ gives 1 tt u32 ∷ gives 2 tt u32 ∷ gives 3 tt u8 ∷ value name ∷ shares 4 tt
+    params = gives 0 tt P.the-row ∷ gives 1 tt u32 ∷ gives 2 tt u32 ∷ gives 3 tt u8 ∷ value sender ∷ shares 4 tt
         u8 ∷ gives 5 tt u8 ∷ [];
     result = answer;
     clauses = main′.clauses 𝓤 H A mem run;

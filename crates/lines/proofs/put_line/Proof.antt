@@ -7,14 +7,16 @@ use Rattle.lines.proofs.put_line.Tie as tie
 
 returns : tie.Need-returns
 returns c =
-    let a = c .before .before .before .before .before .before .before .before .before .before .before .before .before .before .before .before .before .before .before .before .before .before .before .before .before .before .before .before .before .before .args in
-    line-is (now (a .out)) (a .at) (a .place) (a .time) (a .answer) _ _ _ _ _ _ _ _ _ _ _ _
-    (c .before .before .before .before .before .before .before .before .before .before .before .before .before .before .before .before .before .before .before .before .before .before .before .before .before .before .put-count .ensures)
-    (c .before .before .before .before .before .before .before .before .before .before .before .before .before .before .before .before .before .before .before .before .before .put-count2 .ensures)
-    (c .before .before .before .before .before .before .before .before .before .before .before .before .before .before .before .before .put-count3 .ensures)
-    (c .before .before .before .before .before .before .before .before .before .before .before .put-text .ensures)
-    (c .before .before .before .before .before .before .before .put-outcome .ensures)
-    (c .before .before .put-text2 .ensures)
+    let end = c .before .before in
+    let outcome = end .before .before .before .before .before in
+    let blank = outcome .before .before .before .before in
+    let time = blank .before .before .before .before .before in
+    let used = time .before .before .before .before in
+    let place = used .before .before .before .before .before in
+    let a = place .before .before .before .before .args in
+    line-is (now (a .out)) (a .at) (a .place) (a .t) (a .answer) _ _ _ _ _ _ _ _ _ _ _ _
+    (place .put-count .ensures) (used .put-count2 .ensures) (time .put-time .ensures) (blank .put-text .ensures)
+    (outcome .put-outcome .ensures) (end .put-text2 .ensures)
 
 pub put-line-spec : {M : Type 1} → statement M
 put-line-spec =
@@ -24,7 +26,6 @@ put-line-spec =
     (λ c κs. search needs)
     (λ c. search needs)
     (λ c κs. search needs)
-    (λ c. search needs)
     (λ c κs. search needs)
     (λ c. search needs)
     (λ c κs. search needs)

@@ -5,6 +5,7 @@ use native.Mathlib.Omega.{arith}
 use mathlib.Core.Path.{_≡_, refl, _∙_}
 use denote.Ref.{now}
 use lib.ListN.{length}
+use Rattle.paper.specs.declared.Time.the-variants.{Known}
 use Rattle.memory.specs.Relay.{tables}
 use Rattle.lines.specs.Typed.{typed}
 use Rattle.list.specs.Listed.{linesFrom}
@@ -14,7 +15,8 @@ use Rattle.list.proofs.list_units.Tie as tie
 
 abbrev Inv-loop : tie.InvT-loop
 Inv-loop rows₀ marks₀ stores₀ input text₀ places₀ time₀ at₀ next₀ many rows marks stores text places time at next =
-    Listing (typed text₀ 0 (linesFrom (length input) (tables places₀ rows₀ marks₀ stores₀) 0 0 input)) input text (tables places rows marks stores) time at next
+    Listing (typed text₀ 0 (linesFrom (length input) (tables places₀ rows₀ marks₀ stores₀) (Known 0) 0 input)) input text
+    (tables places rows marks stores) time at next
     × ((length rows ≡ length rows₀) × ((length marks ≡ length marks₀) × ((length stores ≡ length stores₀) × (length text ≡ length text₀))))
 
 abbrev μ-loop : tie.MeasureT-loop

@@ -11,5 +11,5 @@ reach-for-spec =
     (tie.spec
     (λ c κs. search needs)
     (λ c κs. search needs)
-    (λ c. yes _ _ (sym (c .before .before .has-place .ensures) ∙ c .before .if1 .taken) (c .reach .ensures))
-    (λ c. no _ _ (sym (c .before .has-place .ensures) ∙ c .if1 .left) refl))
+    (λ c. yes _ _ (sym (c .before .before .is-text .ensures) ∙ c .before .if1 .taken) (c .reach .ensures))
+    (λ c. no _ _ (sym (c .before .is-text .ensures) ∙ c .if1 .left) refl))

@@ -36,6 +36,7 @@ use Rattle.walks.proofs.Shown.{calls-shown}
 use Rattle.laws.specs.Rows.{_<?_}
 use Rattle.laws.specs.Table.{seek}
 use Rattle.paper.specs.declared.Name.{Name}
+use Rattle.paper.specs.declared.Sender.{Sender}
 use Rattle.sample.specs.declared.Place.{Place}
 use Rattle.sample.specs.Place.{closed}
 use Rattle.sample.proofs.Place as P
@@ -45,15 +46,15 @@ use Rattle.finds.proofs.Calls.{KnowsLen, KnowsFind, knows-len, knows-find}
 use Rattle.frees.proofs.Calls.{KnowsFree, knows-free, calls-free}
 use Rattle.memory.specs.Table.{isAt}
 use Rattle.memory.specs.Relay.{desksOf, tables as lent-tables}
-use Rattle.looks.specs.Looks.{reachOf, freedAt}
+use Rattle.looks.specs.Looks.{reachOf, senderOf, freedAt}
 use Rattle.steps.specs.Plan.{yield, yielding, placeAfter}
-use Rattle.steps.specs.Back.{given-up-is}
+use Rattle.steps.specs.Yielded.{given-up-is}
 use Rattle.yields.proofs.yield_step as yield′
 use Rattle.yields.proofs.yield_step.Symbol as yield′-def
 use Rattle.yields.proofs.yield_step.Symbol.{name as #yield′}
 use Rattle.yields.proofs.yield_step.Met as yield′-thm
-use Rattle.relay.proofs.Calls.{KnowsReach, KnowsFreedAt, knows-reach, knows-freed-at}
-use Rattle.relay.proofs.Asked.{Len, Find, Reach, FreedAt}
+use Rattle.relay.proofs.Calls.{KnowsSenderOf, KnowsReach, KnowsFreedAt, knows-sender-of, knows-reach, knows-freed-at}
+use Rattle.relay.proofs.Asked.{SenderOf, Len, Find, Reach, FreedAt}
 use Rattle.relay.proofs.give_up.Key.{name as #relay·give-up}
 use Rattle.relay.proofs.give_up as me
 use Rattle.relay.proofs.give_up.Statement as stated
@@ -79,7 +80,8 @@ module _ {M : Type 1} (𝓤 : URA M) (H : Heap 𝓤) (A : Atoms 𝓤) (mem : Mem
     clauses = yield′.clauses 𝓤 H A mem run;
   }
 
-  module _ (W : Given 𝓤 H A) (𝓣 : Tables 𝓤 H) (known-len : KnowsLen 𝓤 H A mem run (𝓣 .C)) (known-reach : KnowsReach 𝓤 H A mem run (𝓣 .C))
+  module _ (W : Given 𝓤 H A) (𝓣 : Tables 𝓤 H) (known-sender : KnowsSenderOf 𝓤 H A mem run (𝓣 .C))
+      (known-len : KnowsLen 𝓤 H A mem run (𝓣 .C)) (known-reach : KnowsReach 𝓤 H A mem run (𝓣 .C))
       (known-find : KnowsFind 𝓤 H A mem run (𝓣 .C)) (known-freed-at : KnowsFreedAt 𝓤 H A mem run (𝓣 .C))
       (known-free : KnowsFree 𝓤 H A mem run (𝓣 .C)) (known-yield : Triple 𝓤 (𝓣 .C #yield′) (contractOf 𝓤 H A Yield))
       (κs : Lfts 3) (qs : Shares 3) (a : Args me.signature κs) (are : Fitting 𝓤 H A Mine κs a) (b : ℕ → ℕ) where
@@ -99,6 +101,9 @@ module _ {M : Type 1} (𝓤 : URA M) (H : Heap 𝓤) (A : Atoms 𝓤) (mem : Mem
     vs = valued-of 𝓤 H A Mine κs a
 
     -- the values on the way
+    abbrev whose : Sender
+    whose = senderOf who
+
     abbrev len : ℕ
     len = length (now places)
 
@@ -106,7 +111,7 @@ module _ {M : Type 1} (𝓤 : URA M) (H : Heap 𝓤) (A : Atoms 𝓤) (mem : Mem
     m = reachOf (desksOf (now marks)) len
 
     abbrev at : ℕ
-    at = seek (isAt (who .desk) (who .time)) (take m (now places))
+    at = seek (isAt (whose .desk) (whose .time)) (take m (now places))
 
     abbrev places′ : GivenUp → List Place
     places′ g = stored m (freedAt g at len) closed (now places)
@@ -121,13 +126,16 @@ module _ {M : Type 1} (𝓤 : URA M) (H : Heap 𝓤) (A : Atoms 𝓤) (mem : Mem
     walk : Begins 𝓤 H A Mine W 𝓣 code.function κs qs tt a tt b
     walk =
         -- [the frame; the tokens; the places, the rows, the marks]
+        calls-known ! fm (SenderOf 𝓤 H A mem run) known-sender tt tt tt (who, tt)
+        (valued-of 𝓤 H A (SenderOf 𝓤 H A mem run) tt (who, tt)) tt (id⊢ 𝓤 _) (are .1 .1 .1 .0, tt) whose
+        (λ _ _. id⊢ 𝓤 _) (0 ∷ []) refl refl tt refl (λ _ is-whose _.
         reborrows ! (are .0 .0 .1 .0) refl tt $ move ! (0 ∷ 4 ∷ 1 ∷ []) $
         calls-shown ! fm (Len 𝓤 H A mem run) known-len (κs .0) (qs .0) places tt tt tt tt tt refl tt refl (λ is-len.
         reborrows ! (are .1 .1 .0 .0 .1 .0) refl tt $ move ! (0 ∷ 6 ∷ 4 ∷ []) $
-        calls-shown ! fm (Reach 𝓤 H A mem run) known-reach (κs .1 .1 .0) (qs .1 .1 .0) marks tt (who, (len, tt)) tt
-        (are .1 .1 .1 .0, (is-len, tt)) tt refl tt refl (λ is-m.
+        calls-shown ! fm (Reach 𝓤 H A mem run) known-reach (κs .1 .1 .0) (qs .1 .1 .0) marks tt (whose, (len, tt)) tt
+        (is-whose, (is-len, tt)) tt refl tt refl (λ is-m.
         reborrows ! (are .0 .0 .1 .0) refl tt $ move ! (0 ∷ 3 ∷ 4 ∷ []) $
-        calls-shown ! fm (Find 𝓤 H A mem run) known-find (κs .0) (qs .0) places tt (m, (who, tt)) tt (is-m, (are .1 .1 .1 .0, tt)) tt
+        calls-shown ! fm (Find 𝓤 H A mem run) known-find (κs .0) (qs .0) places tt (m, (whose, tt)) tt (is-m, (is-whose, tt)) tt
         refl tt refl (λ is-at.
         reborrows ! (are .1 .0 .0 .1 .0) refl tt $ reborrows ! (are .1 .1 .0 .0 .1 .0) refl tt $
         -- `yields::yield_step`
@@ -155,13 +163,14 @@ module _ {M : Type 1} (𝓤 : URA M) (H : Heap 𝓤) (A : Atoms 𝓤) (mem : Mem
         )
         (factI 𝓤 _ (emp 𝓤) (λ stores. given-up-is (lent-tables (now places) (now rows) (now marks) stores) who g (ws .1 .1 .1 .0)
         (ws .1 .1 .1 .1 .0) e))
-        (1 ∷ 2 ∷ 3 ∷ 4 ∷ 0 ∷ 5 ∷ 6 ∷ []) refl refl tt)))))))
+        (1 ∷ 2 ∷ 3 ∷ 4 ∷ 0 ∷ 5 ∷ 6 ∷ []) refl refl tt))))))))
 
 pub give-up-spec : {M : Type 1} → stated.statement M
 unfolding code.routine tablesOf
 give-up-spec 𝓤 H 𝓜 𝓖 𝓡 =
     proved-by 𝓤 H 𝓜 𝓖 𝓡 code.env (Mine 𝓤 H (𝓖 .A) (𝓜 .mem) (𝓡 .run)) #relay·give-up code.function (code.unfolded 𝓤 H 𝓜 𝓡) (tt, λ κs b. refl)
     (λ κs a qs _ _. walk 𝓤 H (𝓖 .A) (𝓜 .mem) (𝓡 .run) (givenOf 𝓤 H 𝓜 𝓖) (tablesOf 𝓤 H 𝓜 (tables 𝓤 H 𝓜 𝓡 code.env))
+    (knows-sender-of 𝓤 H 𝓜 𝓖 𝓡 code.env code.calls-looks·sender-of)
     (knows-len 𝓤 H 𝓜 𝓖 𝓡 code.env code.calls-finds·len) (knows-reach 𝓤 H 𝓜 𝓖 𝓡 code.env code.calls-looks·reach)
     (knows-find 𝓤 H 𝓜 𝓖 𝓡 code.env code.calls-finds·find) (knows-freed-at 𝓤 H 𝓜 𝓖 𝓡 code.env code.calls-looks·freed-at)
     (knows-free 𝓤 H 𝓜 𝓖 𝓡 code.env code.calls-frees·free)

@@ -31,7 +31,7 @@ use Rattle.walks.proofs.Handed.{calls-known, calls-lent, leaves}
 use Rattle.walks.proofs.Shown.{calls-shown}
 use Rattle.laws.specs.Table.{seek}
 use Rattle.paper.specs.declared.Answer.{Answer}
-use Rattle.paper.specs.declared.Name.{Name}
+use Rattle.paper.specs.declared.Sender.{Sender}
 use Rattle.unit.specs.declared.Reading.{Reading}
 use Rattle.unit.specs.Layout.{readOf}
 use Rattle.sample.specs.declared.Place.{Place}
@@ -41,13 +41,13 @@ use Rattle.asks.specs.declared.Arrival.{Arrival}
 use Rattle.asks.specs.Settled.{arrivalOf}
 use Rattle.memory.specs.Table.{vacant, isAt}
 use Rattle.memory.specs.Relay.{Tables as Tabled, tables as lent-tables, done as leaves-at, desksOf}
-use Rattle.looks.specs.Looks.{reachOf, askedOf, spotOf}
+use Rattle.looks.specs.Looks.{reachAt, askedOf, spotOf}
 use Rattle.steps.specs.Kept.{joinedAt}
 use Rattle.steps.specs.Back.{spot-opens, joined-is}
 use Rattle.finds.proofs.Calls.{KnowsLen, KnowsFind, KnowsLowest, knows-len, knows-find, knows-lowest}
 use Rattle.relay.proofs.Calls.{KnowsReach, KnowsAsked, KnowsArrived, KnowsSpotOf}
 use Rattle.relay.proofs.Calls.{knows-reach, knows-asked, knows-arrived, knows-spot}
-use Rattle.relay.proofs.Values.{name, answer, arrival, reading}
+use Rattle.relay.proofs.Values.{sender, answer, arrival, reading}
 use Rattle.relay.proofs.Asked.{Len, Find, Lowest, Reach, Asked, Arrived, SpotOf}
 use Rattle.relay.proofs.join_at as last′
 use Rattle.relay.proofs.join_at.Symbol as last′-def
@@ -67,7 +67,7 @@ module _ {M : Type 1} (𝓤 : URA M) (H : Heap 𝓤) (A : Atoms 𝓤) (mem : Mem
   Mine = record {
     lifetimes = 6;
     bounds = [];
-    params = gives 0 tt P.the-row ∷ gives 1 tt u32 ∷ gives 2 tt u32 ∷ keeps 3 tt u8 ∷ value name ∷ value reading ∷ shares 4 tt u8 ∷ gives
+    params = gives 0 tt P.the-row ∷ gives 1 tt u32 ∷ gives 2 tt u32 ∷ keeps 3 tt u8 ∷ value sender ∷ value reading ∷ shares 4 tt u8 ∷ gives
         5 tt u8 ∷ [];
     result = answer;
     clauses = me.clauses 𝓤 H A mem run;
@@ -78,7 +78,7 @@ module _ {M : Type 1} (𝓤 : URA M) (H : Heap 𝓤) (A : Atoms 𝓤) (mem : Mem
     lifetimes = 5;
     bounds = [];
     params = gives 0 tt P.the-row ∷ value (number w64) ∷ value (number w64) ∷ gives 1 tt u32 ∷ gives 2 tt u32 ∷ value
-        (number w64) ∷ value name ∷ value arrival ∷ shares 3 tt u8 ∷ gives 4 tt u8 ∷ [];
+        (number w64) ∷ value sender ∷ value arrival ∷ shares 3 tt u8 ∷ gives 4 tt u8 ∷ [];
     result = answer;
     clauses = last′.clauses 𝓤 H A mem run;
   }
@@ -87,7 +87,7 @@ module _ {M : Type 1} (𝓤 : URA M) (H : Heap 𝓤) (A : Atoms 𝓤) (mem : Mem
       (known-find : KnowsFind 𝓤 H A mem run (𝓣 .C)) (known-asked : KnowsAsked 𝓤 H A mem run (𝓣 .C))
       (known-lowest : KnowsLowest 𝓤 H A mem run (𝓣 .C)) (known-arrived : KnowsArrived 𝓤 H A mem run (𝓣 .C))
       (known-spot : KnowsSpotOf 𝓤 H A mem run (𝓣 .C)) (known-last : Triple 𝓤 (𝓣 .C #last′) (contractOf 𝓤 H A Last))
-      (κs : Lfts 6) (qs : Shares 6) (places : RefT (List Place)) (rows marks stores : RefT (List ℕ)) (who : Name) (r : Reading)
+      (κs : Lfts 6) (qs : Shares 6) (places : RefT (List Place)) (rows marks stores : RefT (List ℕ)) (who : Sender) (r : Reading)
       (rest out : RefT (List ℕ)) where
     abbrev a : Args me.signature κs
     a = (places, (rows, (marks, (stores, (who, (r, (rest, (out, tt))))))))
@@ -103,7 +103,7 @@ module _ {M : Type 1} (𝓤 : URA M) (H : Heap 𝓤) (A : Atoms 𝓤) (mem : Mem
     len = length (now places)
 
     abbrev m : ℕ
-    m = reachOf (desksOf (now marks)) len
+    m = reachAt (desksOf (now marks)) (who .time) len
 
     abbrev at : ℕ
     at = seek (isAt (who .desk) (who .time)) (take m (now places))

@@ -33,7 +33,7 @@ use Rattle.walks.proofs.Data.{number, typed-as}
 use Rattle.walks.proofs.Lending.{Lending, gives, keeps, shares, value, contractOf, walkedTo, valued-of, Fitting, Begins, proved-under}
 use Rattle.walks.proofs.Handed.{calls-lent, leaves, slice-home}
 use Rattle.paper.specs.declared.Answer.{Answer}
-use Rattle.paper.specs.declared.Name.{Name}
+use Rattle.paper.specs.declared.Sender.{Sender}
 use Rattle.sample.specs.declared.Place.{Place}
 use Rattle.sample.specs.Place.{closed}
 use Rattle.sample.proofs.Place as P
@@ -54,7 +54,7 @@ use Rattle.relay.proofs.join_at as me
 use Rattle.relay.proofs.join_at.Statement as stated
 use Rattle.relay.proofs.join_at.Code as code
 use Rattle.relay.proofs.join_at.Code.Mir as pieces
-use Rattle.relay.proofs.Values.{name, answer, arrival}
+use Rattle.relay.proofs.Values.{sender, answer, arrival}
 
 module _ {M : Type 1} (𝓤 : URA M) (H : Heap 𝓤) (A : Atoms 𝓤) (mem : Memory → SProp 𝓤) (run : Routine → Fun 𝓤) where
   abbrev Mine : Lending 𝓤
@@ -63,7 +63,7 @@ module _ {M : Type 1} (𝓤 : URA M) (H : Heap 𝓤) (A : Atoms 𝓤) (mem : Mem
     bounds = [];
     params = keeps 0 tt P.the-row ∷ value (number w64) ∷ value (number w64) ∷ gives 1 tt u32 ∷ gives 2 tt u32 ∷ value
         (number w64)
-        ∷ value name ∷ value arrival ∷ shares 3 tt u8 ∷ gives 4 tt u8 ∷ [];
+        ∷ value sender ∷ value arrival ∷ shares 3 tt u8 ∷ gives 4 tt u8 ∷ [];
     result = answer;
     clauses = me.clauses 𝓤 H A mem run;
   }
@@ -74,7 +74,7 @@ module _ {M : Type 1} (𝓤 : URA M) (H : Heap 𝓤) (A : Atoms 𝓤) (mem : Mem
     bounds = [];
     params = gives 0 tt P.the-row ∷ value (number w64) ∷ value (number w64) ∷ gives 1 tt u32 ∷ gives 2 tt u32 ∷ value
         (number w64)
-        ∷ value name ∷ value arrival ∷ shares 3 tt u8 ∷ gives 4 tt u8 ∷ [];
+        ∷ value sender ∷ value arrival ∷ shares 3 tt u8 ∷ gives 4 tt u8 ∷ [];
     result = answer;
     clauses = in′.clauses 𝓤 H A mem run;
   }
@@ -83,7 +83,7 @@ module _ {M : Type 1} (𝓤 : URA M) (H : Heap 𝓤) (A : Atoms 𝓤) (mem : Mem
   StepLost = record {
     lifetimes = 4;
     bounds = [];
-    params = value (number w64) ∷ gives 0 tt u32 ∷ gives 1 tt u32 ∷ value (number w64) ∷ value name ∷ value arrival ∷ shares 2
+    params = value (number w64) ∷ gives 0 tt u32 ∷ gives 1 tt u32 ∷ value (number w64) ∷ value sender ∷ value arrival ∷ shares 2
         tt u8
         ∷ gives 3 tt u8 ∷ [];
     result = answer;
@@ -119,7 +119,7 @@ module _ {M : Type 1} (𝓤 : URA M) (H : Heap 𝓤) (A : Atoms 𝓤) (mem : Mem
     abbrev held : ℕ
     held = a .1 .1 .1 .1 .1 .0
 
-    abbrev who : Name
+    abbrev who : Sender
     who = a .1 .1 .1 .1 .1 .1 .0
 
     abbrev x : Arrival

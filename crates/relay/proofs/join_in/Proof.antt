@@ -45,7 +45,7 @@ use Rattle.walks.proofs.Frame.{within, looks-at, reads, reads-all, sets, sets-a
 use Rattle.walks.proofs.Data.{Data, number, array, typed-as}
 use Rattle.walks.proofs.Lending.{Lending, gives, keeps, shares, points, value, contractOf, valued-of, Fitting, Begins, proved-under}
 use Rattle.walks.proofs.Handed.{calls-lent, leaves}
-use Rattle.paper.specs.declared.Name.{Name}
+use Rattle.paper.specs.declared.Sender.{Sender}
 use Rattle.paper.proofs.Answer as N
 use Rattle.sample.specs.declared.Place.{Place}
 use Rattle.sample.specs.Head.{headOf, whole}
@@ -71,7 +71,7 @@ use Rattle.relay.proofs.join_in.Key.{name as #relay·join-in}
 use Rattle.relay.proofs.join_in as me
 use Rattle.relay.proofs.join_in.Statement as stated
 use Rattle.relay.proofs.join_in.Code as code
-use Rattle.relay.proofs.Values.{place, head, settled, name, answer, arrival}
+use Rattle.relay.proofs.Values.{place, head, settled, sender, answer, arrival}
 
 -- the four arrays of a place
 abbrev numbers : Data
@@ -135,7 +135,7 @@ module _ {M : Type 1} (𝓤 : URA M) (H : Heap 𝓤) (A : Atoms 𝓤) (mem : Mem
     bounds = [];
     params = keeps 0 tt P.the-row ∷ value (number w64) ∷ value (number w64) ∷ gives 1 tt u32 ∷ gives 2 tt u32 ∷ value
         (number w64)
-        ∷ value name ∷ value arrival ∷ shares 3 tt u8 ∷ gives 4 tt u8 ∷ [];
+        ∷ value sender ∷ value arrival ∷ shares 3 tt u8 ∷ gives 4 tt u8 ∷ [];
     result = answer;
     clauses = me.clauses 𝓤 H A mem run;
   }
@@ -146,7 +146,7 @@ module _ {M : Type 1} (𝓤 : URA M) (H : Heap 𝓤) (A : Atoms 𝓤) (mem : Mem
     bounds = [];
     params = value (number w64) ∷ value head ∷ points 0 tt (numbers .row) ∷ points 1 tt (numbers .row) ∷ points 2 tt
         (numbers .row)
-        ∷ points 3 tt (bytes .row) ∷ gives 4 tt u32 ∷ gives 5 tt u32 ∷ value (number w64) ∷ value name ∷ value arrival ∷ shares 6 tt u8
+        ∷ points 3 tt (bytes .row) ∷ gives 4 tt u32 ∷ gives 5 tt u32 ∷ value (number w64) ∷ value sender ∷ value arrival ∷ shares 6 tt u8
         ∷ gives 7 tt u8 ∷ [];
     result = settled;
     clauses = step′.clauses 𝓤 H A mem run;
@@ -181,7 +181,7 @@ module _ {M : Type 1} (𝓤 : URA M) (H : Heap 𝓤) (A : Atoms 𝓤) (mem : Mem
     abbrev held : ℕ
     held = a .1 .1 .1 .1 .1 .0
 
-    abbrev who : Name
+    abbrev who : Sender
     who = a .1 .1 .1 .1 .1 .1 .0
 
     abbrev x : Arrival

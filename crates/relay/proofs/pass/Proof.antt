@@ -29,7 +29,7 @@ use Rattle.walks.proofs.Lending.{Lending, gives, keeps, shares, value, contract
 use Rattle.walks.proofs.Handed.{calls-lent, leaves}
 use Rattle.walks.proofs.Shown.{calls-shown}
 use Rattle.paper.specs.declared.Answer.{Answer}
-use Rattle.paper.specs.declared.Name.{Name}
+use Rattle.paper.specs.declared.Sender.{Sender}
 use Rattle.unit.specs.declared.Reading.{Reading}
 use Rattle.unit.specs.Layout.{readOf}
 use Rattle.sample.specs.declared.Place.{Place}
@@ -48,7 +48,7 @@ use Rattle.yields.proofs.pass_step.Symbol as last′-def
 use Rattle.yields.proofs.pass_step.Symbol.{name as #last′}
 use Rattle.yields.proofs.pass_step.Met as last′-thm
 use Rattle.relay.proofs.Calls.{KnowsReachFor, knows-reach-for}
-use Rattle.relay.proofs.Values.{name, answer, reading}
+use Rattle.relay.proofs.Values.{sender, answer, reading}
 use Rattle.relay.proofs.Asked.{Len, IsOpen, ReachFor}
 use Rattle.relay.proofs.pass.Key.{name as #relay·pass}
 use Rattle.relay.proofs.pass as me
@@ -64,7 +64,7 @@ module _ {M : Type 1} (𝓤 : URA M) (H : Heap 𝓤) (A : Atoms 𝓤) (mem : Mem
   Mine = record {
     lifetimes = 6;
     bounds = [];
-    params = keeps 0 tt P.the-row ∷ gives 1 tt u32 ∷ gives 2 tt u32 ∷ gives 3 tt u8 ∷ value name ∷ value reading ∷ shares 4 tt u8 ∷ gives
+    params = keeps 0 tt P.the-row ∷ gives 1 tt u32 ∷ gives 2 tt u32 ∷ gives 3 tt u8 ∷ value sender ∷ value reading ∷ shares 4 tt u8 ∷ gives
         5 tt u8 ∷ [];
     result = answer;
     clauses = me.clauses 𝓤 H A mem run;
@@ -74,7 +74,7 @@ module _ {M : Type 1} (𝓤 : URA M) (H : Heap 𝓤) (A : Atoms 𝓤) (mem : Mem
   Last = record {
     lifetimes = 5;
     bounds = [];
-    params = value (number w64) ∷ value truth ∷ gives 0 tt u32 ∷ gives 1 tt u32 ∷ gives 2 tt u8 ∷ value name ∷ value reading ∷ shares
+    params = value (number w64) ∷ value truth ∷ gives 0 tt u32 ∷ gives 1 tt u32 ∷ gives 2 tt u8 ∷ value sender ∷ value reading ∷ shares
         3 tt u8 ∷ gives 4 tt u8 ∷ [];
     result = answer;
     clauses = last′.clauses 𝓤 H A mem run;
@@ -83,7 +83,7 @@ module _ {M : Type 1} (𝓤 : URA M) (H : Heap 𝓤) (A : Atoms 𝓤) (mem : Mem
   module _ (W : Given 𝓤 H A) (𝓣 : Tables 𝓤 H) (known-len : KnowsLen 𝓤 H A mem run (𝓣 .C))
       (known-reach-for : KnowsReachFor 𝓤 H A mem run (𝓣 .C)) (known-is-open : KnowsIsOpen 𝓤 H A mem run (𝓣 .C))
       (known-last : Triple 𝓤 (𝓣 .C #last′) (contractOf 𝓤 H A Last)) (κs : Lfts 6) (qs : Shares 6) (places : RefT (List Place))
-      (rows marks stores : RefT (List ℕ)) (who : Name) (r : Reading) (rest out : RefT (List ℕ)) where
+      (rows marks stores : RefT (List ℕ)) (who : Sender) (r : Reading) (rest out : RefT (List ℕ)) where
     abbrev a : Args me.signature κs
     a = (places, (rows, (marks, (stores, (who, (r, (rest, (out, tt))))))))
 
@@ -92,7 +92,7 @@ module _ {M : Type 1} (𝓤 : URA M) (H : Heap 𝓤) (A : Atoms 𝓤) (mem : Mem
     len = length (now places)
 
     abbrev m : ℕ
-    m = reachFor (desksOf (now marks)) len (r .unit)
+    m = reachFor (desksOf (now marks)) (who .time) len (r .unit)
 
     abbrev stands : Bool
     stands = holds (isAt (who .desk) (who .time)) (take m (now places))

@@ -54,7 +54,7 @@ use Rattle.relay.proofs.receive as me
 use Rattle.relay.proofs.receive.Statement as stated
 use Rattle.relay.proofs.receive.Code as code
 use Rattle.relay.proofs.receive.Code.Mir as pieces
-use Rattle.relay.proofs.Values.{name, answer, reading}
+use Rattle.relay.proofs.Values.{sender, answer, reading}
 
 hit : (b : Bool) → T b → b ≡ true
 hit true h = refl
@@ -69,7 +69,7 @@ module _ {M : Type 1} (𝓤 : URA M) (H : Heap 𝓤) (A : Atoms 𝓤) (mem : Mem
   Mine = record {
     lifetimes = 6;
     bounds = [];
-    params = gives 0 tt P.the-row ∷ gives 1 tt u32 ∷ gives 2 tt u32 ∷ gives 3 tt u8 ∷ value name ∷ shares 4 tt
+    params = gives 0 tt P.the-row ∷ gives 1 tt u32 ∷ gives 2 tt u32 ∷ gives 3 tt u8 ∷ value sender ∷ shares 4 tt
         u8 ∷ gives 5 tt u8 ∷ [];
     result = answer;
     clauses = me.clauses 𝓤 H A mem run;
@@ -85,7 +85,7 @@ module _ {M : Type 1} (𝓤 : URA M) (H : Heap 𝓤) (A : Atoms 𝓤) (mem : Mem
   Join = record {
     lifetimes = 6;
     bounds = [];
-    params = gives 0 tt P.the-row ∷ gives 1 tt u32 ∷ gives 2 tt u32 ∷ gives 3 tt u8 ∷ value name ∷ value reading ∷ shares 4 tt u8 ∷ gives 5
+    params = gives 0 tt P.the-row ∷ gives 1 tt u32 ∷ gives 2 tt u32 ∷ gives 3 tt u8 ∷ value sender ∷ value reading ∷ shares 4 tt u8 ∷ gives 5
         tt u8 ∷ [];
     result = answer;
     clauses = join′.clauses 𝓤 H A mem run;
@@ -95,7 +95,7 @@ module _ {M : Type 1} (𝓤 : URA M) (H : Heap 𝓤) (A : Atoms 𝓤) (mem : Mem
   Pass = record {
     lifetimes = 6;
     bounds = [];
-    params = gives 0 tt P.the-row ∷ gives 1 tt u32 ∷ gives 2 tt u32 ∷ gives 3 tt u8 ∷ value name ∷ value reading ∷ shares 4 tt u8 ∷ gives 5
+    params = gives 0 tt P.the-row ∷ gives 1 tt u32 ∷ gives 2 tt u32 ∷ gives 3 tt u8 ∷ value sender ∷ value reading ∷ shares 4 tt u8 ∷ gives 5
         tt u8 ∷ [];
     result = answer;
     clauses = pass′.clauses 𝓤 H A mem run;

@@ -1,72 +1,39 @@
--- `settle::lose` meets its contract: a part that is barred leaves nothing, else it is completed in a place of the call. Assumes nothing.
+-- `settle::lose` meets its contract: the part is taken at a known time, and gets 18 at an unknown one. Assumes nothing.
 use borrow.Author.Needs.{needs}
-use mathlib.Core.Path.{refl, ap, _∙_}
+use mathlib.Core.Path.{_∙_}
 use denote.Ref.{now}
-use Rattle.paper.specs.declared.Answer.{Answer}
-use Rattle.sample.specs.declared.Place.{Place}
-use Rattle.sample.specs.Place.{closed, kept}
-use Rattle.desk.specs.Desk.{own, turn, left, completed}
-use Rattle.begins.specs.Begins.{new-cleared, opens-not, opens-now}
-use Rattle.settle.specs.Settles.{lost, part-new}
+use Rattle.sample.specs.Place.{closed}
+use Rattle.desk.specs.Desk.{own}
+use Rattle.asks.specs.Asked.{timed-known, timed-unknown}
+use Rattle.settle.specs.Settles.{lost}
 use Rattle.settle.proofs.lose.Statement.{statement}
 use Rattle.settle.proofs.lose.Tie as tie
 
 returns : tie.Need-returns
 returns c = λ store.
-    let b = c .before .before .before .before in
-    let a = b .before .before .before .before .before .before .before .before .before .before .before .before .args in
-    let row = now (a .row) in
-    let marks = now (a .marks) in
-    let x = a .x .part in
-    let used = a .x .used in
-    let d = now (a .d) in
-    let out = now (a .out) in
-    let next = b .before .before .before .before .before .before .next-time .result in
-    let not = opens-not (a .h) row marks store out (a .desk) (a .time) used next x d
-    _ (b .before .before .before .before .before .opened .ensures) _ _ (b .before .before .is-late .ensures) (b .before .oversize .ensures) _ (b .find-bar .ensures)
-    _ (c .before .before .bar .given .1) in
-    let new = part-new (a .h) row marks store out (a .desk) (a .time) used next x d (b .before .before .before .before .before .before .next-time .ensures) in
-    lost closed _ row marks store out _ (ap (λ (z : Answer). left (turn closed z) row marks store out) (c .says .ensures) ∙ not ∙ new)
+    let b = c .before .before .before .before .before .before in
+    let a = b .before .before .before .before .before .before .before .before .before .before .before .args in
+    let s = own closed (now (a .row)) (now (a .marks)) store (now (a .out)) in
+    lost _ _ _ _ store _ _
+    (b .lose-at .ensures store ∙ timed-known s (a .t) (a .x .used) _ _ (b .before .before .before .before .before .t .given .1))
 
 returns-2 : tie.Need-returns-2
 returns-2 c = λ store.
-    let k = c .before .before .before .before .before .before .before .before .before .before .before .before .before .before .before in
-    let b = k .before .before .before .before .before .before .before in
-    let a = b .before .before .before .before .before .before .before .before .before .before .before .before .args in
-    let row = now (a .row) in
-    let marks = now (a .marks) in
-    let x = a .x .part in
-    let used = a .x .used in
-    let d = now (a .d) in
-    let out = now (a .out) in
-    let next = b .before .before .before .before .before .before .next-time .result in
-    let empty = new-cleared (a .desk) (a .time) x _ _ _ _ _ (b .before .before .before .before .before .opened .ensures) refl refl refl refl in
-    let is = k .keep .ensures ∙ ap (λ (p : Place). kept p x d) empty in
-    let full = opens-now (a .h) row marks store out (a .desk) (a .time) used next x d
-    _ (b .before .before .before .before .before .opened .ensures) _ _ (b .before .before .is-late .ensures) (b .before .oversize .ensures) _ (b .find-bar .ensures)
-    (k .before .before .before .before .before .enum-told .given .1) in
-    let new = part-new (a .h) row marks store out (a .desk) (a .time) used next x d (b .before .before .before .before .before .before .next-time .ensures) in
-    lost _ _ _ _ store _ _
-    (c .before .before .before .before .before .before .before .complete .ensures closed store ∙ ap (completed (own closed row marks store out) (a .time) used next) is ∙ full ∙ new)
+    let a = c .before .before .before .before .before .before .before .args in
+    let s = own closed (now (a .row)) (now (a .marks)) store (now (a .out)) in
+    lost closed _ (now (a .row)) (now (a .marks)) store (now (a .out)) _
+    (rw (c .says .ensures) (timed-unknown s (a .t) (a .x .used) _ (c .before .enum-told .given .1)))
 
 pub lose-spec : {M : Type 1} → statement M
 lose-spec =
     tie.close
     (tie.spec
-    (λ c κs. search needs)
-    (λ c κs. search needs)
-    (λ c κs. search needs)
-    (λ c κs. search needs)
-    (λ c κs. search needs)
     (λ c. search needs)
     (λ c κs. search needs)
     (λ c. search needs)
     (λ c κs. search needs)
-    (λ c κs. search needs)
+    (λ c. search needs)
     (λ c. search needs)
     (λ c. search needs)
     returns
-    (λ c. search needs)
-    (λ c. search needs)
-    (λ c. search needs)
     returns-2)

@@ -11,7 +11,7 @@ returns : tie.Need-returns
 returns c = λ p row out.
     let a = c .before .before .before .before .before .before .before .before .before .before .before .before .before .before .before .args in
     let s = own p row (now (a .marks)) (now (a .store)) out in
-    description-taken s (a .time) (a .used) (a .w) (now (a .d))
+    description-taken s (a .t) (a .used) (a .w) (now (a .d))
     (c .before .before .before .before .before .before .before .before .before .word .result)
     (c .before .before .before .before .before .before .before .before .before .word .ensures)
     (omega (arith, c .before .before .before .before .before .before .before .before .before .word .ok)) _ _

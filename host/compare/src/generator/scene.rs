@@ -82,7 +82,8 @@ impl<'a> Scene<'a> {
             41..=56 => self.send_common(),
             57..=60 => self.send_odd(),
             61..=62 => self.march(),
-            63..=75 => self.send_description(),
+            63..=64 => self.send_live(),
+            65..=75 => self.send_description(),
             76..=80 => self.give_up(),
             81..=87 => self.look(),
             88 => self.lend(),
@@ -127,17 +128,26 @@ impl<'a> Scene<'a> {
         self.random.pick(&[least, least, BUFFER, BUFFER - 1])
     }
 
+    /// Sends a payload, now and then at an unknown time as well, before or after: of that only
+    /// descriptions are kept.
     fn receive(&mut self, desk: usize, time: u32, mut payload: Vec<u8>) {
         if self.random.percent(self.damage) {
             units::damage(&mut payload, self.random);
         }
-        let output = self.output(1024);
-        self.calls.push(Call::Receive {
-            desk,
-            time,
-            payload,
-            output,
-        });
+        let mut times = vec![Some(time)];
+        if self.random.percent(5) {
+            times.insert(self.random.below(2), None);
+        }
+        for time in times {
+            let output = self.output(1024);
+            let payload = payload.clone();
+            self.calls.push(Call::Receive {
+                desk,
+                time,
+                payload,
+                output,
+            });
+        }
     }
 
     /// Sends the next payload of a sample under way, now and then all of them as one.
@@ -258,6 +268,33 @@ impl<'a> Scene<'a> {
         }
         let (desk, time) = (self.desk(), self.time());
         self.receive(desk, time, payload);
+    }
+
+    /// Sends a line of unknown duration, whole or in a part, and units of every kind behind it, one
+    /// payload.
+    fn send_live(&mut self) {
+        let desk = self.desk();
+        let mut payload = match self.random.below(2) {
+            0 => units::whole(0, 128, 0, 1, b"a"),
+            _ => units::common_part(self.random, 0),
+        };
+        for _ in 0..self.random.between(1, 5) {
+            payload.extend(self.unit(desk));
+        }
+        let time = self.time();
+        self.receive(desk, time, payload);
+    }
+
+    /// A unit of any kind.
+    fn unit(&mut self, desk: usize) -> Vec<u8> {
+        let sdur = self.random.pick(&[self.step, 0]);
+        match self.random.below(5) {
+            0 => units::common_part(self.random, sdur),
+            1 => units::whole(0, 128, sdur, 1, self.random.pick(&[b"a", b"a", b"\xC3"])),
+            2 => units::odd(self.random),
+            3 => units::description(self.in_band(desk), b"d"),
+            _ => units::unit(self.random.pick(&[0, 6, 7]), &[]),
+        }
     }
 
     /// A value around the desk's newest, which it may become.

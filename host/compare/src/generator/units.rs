@@ -77,7 +77,8 @@ pub fn common_part(random: &mut Random, sdur: u32) -> Vec<u8> {
 pub fn odd(random: &mut Random) -> Vec<u8> {
     let first = random.byte();
     let sidx = [random.pick(&INDEXES)];
-    let sdur = random.bytes(3);
+    let any = random.bytes(3);
+    let sdur = if random.percent(20) { vec![0; 3] } else { any };
     let length = random.pick(&LENGTHS);
     let mut data = random.bytes(length);
     if random.percent(70) {
