@@ -3,6 +3,7 @@
 use Prim.Native.Nat.{ℕ, suc, _-_, _≤_, _<_}
 use mathlib.Core.Path.{_≡_}
 use mathlib.Core.Bool.{Bool, true, false}
+use mathlib.Core.Logic.{_⊎_}
 use mathlib.Core.Option.{Option, none, some}
 use mathlib.Core.List.{List, [], _∷_, _++_}
 use lib.ListN.{length, drop}
@@ -159,7 +160,10 @@ NoPart O.Described = Prim.Unit {0}
 NoPart (O.Skipped t) = Prim.Unit {0}
 NoPart (O.Refused r) = numberOf r ≡ 10 → ⊥
 
--- a part at an unknown time is not taken: it is refused, and spoils nothing
+-- a part at an unknown time is not taken: it is refused, by 1, 2 or 18
+abbrev pub Early : (number : ℕ) → Type 0
+Early number = (number ≡ 1) ⊎ ((number ≡ 2) ⊎ (number ≡ 18))
+
 abbrev pub Untaken : Outcome → Type 0
 Untaken O.End = ⊥
 Untaken (O.Whole f) = ⊥
@@ -168,7 +172,7 @@ Untaken (O.Kept n) = ⊥
 Untaken O.Repeat = ⊥
 Untaken O.Described = ⊥
 Untaken (O.Skipped t) = ⊥
-Untaken (O.Refused r) = numberOf r ≡ 10 → ⊥
+Untaken (O.Refused r) = Early (numberOf r)
 
 abbrev pub SaysUnit : Parts → Time → (rest out : List ℕ) → U.Unit → Outcome → (o : List ℕ) → Type 0
 SaysUnit E t rest out End x o = NoPart x

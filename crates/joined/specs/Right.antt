@@ -3,6 +3,7 @@ use Prim.Native.Nat.{ℕ, zero, suc, _+_, _-_, _≤_, _<_}
 use native.Mathlib.Omega.{arith}
 use mathlib.Core.Path.{_≡_, refl, sym, ap, subst, _∙_}
 use mathlib.Core.Bool.{Bool, true, false, true≢false}
+use mathlib.Core.Logic.{inl, inr, ⊎-elim}
 use mathlib.Core.Option.{Option, none, some}
 use mathlib.Core.List.{List, _++_}
 use lib.ListN.{length, drop}
@@ -16,6 +17,7 @@ use Rattle.paper.specs.declared.Time.{Time}
 use Rattle.paper.specs.declared.Time.the-variants.{Known, Unknown}
 use Rattle.joining.specs.Joining.{Piece, kinds, together, stringOf, ordered, sound}
 use Rattle.unit.specs.declared.Whole as W
+use Rattle.paper.specs.declared.Outcome.the-variants as O
 use Rattle.unit.specs.declared.Part as P
 use Rattle.unit.specs.declared.Unit as U
 use Rattle.unit.specs.declared.Unit.the-variants.{End, Skipped, Refused, Whole, Part, Description}
@@ -35,7 +37,7 @@ use Rattle.desk.specs.Desk.{taken, received, givenUp}
 use Rattle.desk.specs.Effects.{not-ten, at-times}
 use Rattle.memory.specs.Relay.{ordered as in-turn, yielded}
 use Rattle.joined.specs.Ledger.{Entry, Parts, adding, entered, enteredBy, givenUpBy, isEntered, enteredPiece, inThisOrder}
-use Rattle.joined.specs.Ledger.{different, Complete, Tell, KeptSays, JoinedSays, SaysPart, NoPart, SaysUnit}
+use Rattle.joined.specs.Ledger.{different, Complete, Tell, KeptSays, JoinedSays, SaysPart, NoPart, Early, SaysUnit}
 use Rattle.joined.specs.Tallies.{Tallies, closed-tallies, sample-tallies, missing-different, none-missing, pieces-in-order}
 use Rattle.joined.specs.Tallies.{total-stays, sdur-stays, not-entered, kept-tallies}
 
@@ -166,14 +168,21 @@ module _ (h : Shares) (s : Own) (desk : ℕ) (rest : List ℕ) (E : Parts) (tp :
       SaysUnit E t rest (s .out) x (a .answer .outcome) (a .own .out)
       × Tallies (a .own .place) (enteredBy E rest x (a .answer .outcome))
 
-  refused-any : (x : U.Unit) (t : Time) (used : ℕ) (next : Time) (r : Refusal) → (numberOf r ≡ 10 → ⊥) → RightOf x t (refuse s used next r)
-  refused-any End t used next r n = (n, tp)
-  refused-any (Skipped y) t used next r n = (n, tp)
-  refused-any (Refused w) t used next r n = (n, tp)
-  refused-any (Whole w) t used next r n = (n, tp)
-  refused-any (Part x) (Known time) used next r n = (λ z. absurd (n z), subst (Tallies (s .place)) (no _ _ (ne _ 10 n) refl) tp)
-  refused-any (Part x) Unknown used next r n = (n, subst (Tallies (s .place)) (no _ _ (ne _ 10 n) refl) tp)
-  refused-any (Description w) t used next r n = (n, tp)
+  -- 1, 2 and 18 are not 10
+  not-spoiled : (r : Refusal) → Early (numberOf r) → numberOf r ≡ 10 → ⊥
+  not-spoiled r k z = ⊎-elim (λ e. omega arith) (λ k. ⊎-elim (λ e. omega arith) (λ e. omega arith) k) k
+
+  stays-entered : (r : Refusal) → Early (numberOf r) → (x : P.Part) → Tallies (s .place) (enteredBy E rest (Part x) (O.Refused r))
+  stays-entered r k x = subst (Tallies (s .place)) (no _ _ (ne _ 10 (not-spoiled r k)) refl) tp
+
+  refused-any : (x : U.Unit) (t : Time) (used : ℕ) (next : Time) (r : Refusal) → Early (numberOf r) → RightOf x t (refuse s used next r)
+  refused-any End t used next r k = (not-spoiled r k, tp)
+  refused-any (Skipped y) t used next r k = (not-spoiled r k, tp)
+  refused-any (Refused w) t used next r k = (not-spoiled r k, tp)
+  refused-any (Whole w) t used next r k = (not-spoiled r k, tp)
+  refused-any (Part x) (Known time) used next r k = (λ z. absurd (not-spoiled r k z), stays-entered r k x)
+  refused-any (Part x) Unknown used next r k = (k, stays-entered r k x)
+  refused-any (Description w) t used next r k = (not-spoiled r k, tp)
 
   abbrev NoPartAfter : After → Type 0
   NoPartAfter a = NoPart (a .answer .outcome) × Tallies (a .own .place) E
@@ -204,15 +213,15 @@ module _ (h : Shares) (s : Own) (desk : ℕ) (rest : List ℕ) (E : Parts) (tp :
       at-times (λ u. NoPartAfter) s used _ (λ time. whole-right time used _ w (dataOf rest (Whole w))) (λ z. omega arith, tp) t
   taken-right room t used (Part x) k c =
       at-times (RightOf (Part x)) s used _ (λ time. part-right s time used _ E x (dataOf rest (Part x)) h desk tp c room)
-      (refused-any (Part x) Unknown used Unknown R.Untimed (λ z. omega arith)) t
+      (refused-any (Part x) Unknown used Unknown R.Untimed (inr (inr refl))) t
   taken-right room t used (Description w) k c = (noted-no-part (s .store) _ (w .sidx) (dataOf rest (Description w)), tp)
 
   pub receive-right : (t : Time) → RightOf (readOf rest .unit) t (in-turn false h s desk t rest)
   unfolding in-turn received
   receive-right t =
       let x = readOf rest .unit in
-      each (RightOf x t) _ _ _ (λ k. refused-any x t 0 t R.Desk (λ z. omega arith))
-      (λ k. each (RightOf x t) _ _ _ (λ k. refused-any x t 0 t R.Output (λ z. omega arith))
+      each (RightOf x t) _ _ _ (λ k. refused-any x t 0 t R.Desk (inl refl))
+      (λ k. each (RightOf x t) _ _ _ (λ k. refused-any x t 0 t R.Output (inr (inl refl)))
       (λ k. taken-right (ge-of _ _ k) t (readOf rest .used) x (read-by-reader rest) (reads-counted rest)))
 
   -- ---- give-up
