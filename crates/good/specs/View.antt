@@ -25,11 +25,10 @@ use Rattle.desk.specs.Desk.{Own, After, Given, own, newestOf}
 use Rattle.memory.specs.Table.{mine, isTime}
 use Rattle.memory.specs.Relay.{Tables, placesOf, rowOf, marksOf, storeOf, openAt, ownOf, sharesOf, storedShares, placed, putBack, short}
 use Rattle.memory.specs.Relay.{Prepared, freshMarks, setUp, ordered, Done, settled, receivedAmong, receivedAt, yielded, Released, returned}
-use Rattle.memory.specs.Relay.{givenUpAmong, givenUpAt, lookedUpAmong, lookedUp}
+use Rattle.memory.specs.Relay.{givenUpAmong, givenUpAt, lookedUpAmong, lookedUp, sender}
 use Rattle.memory.specs.Back.{open-unknown}
 use Rattle.good.specs.Places.{time-of, Moved}
 use Rattle.good.specs.Fair.{once-at}
-use Rattle.memory.specs.Relay.{sender}
 use Rattle.good.specs.Good.{name, Good, shares-are, no-stranger, no-lack, no-lack-three, fresh-length, Left, Fits, fits}
 use Rattle.good.specs.Good.{receive-left, give-up-left, receive-each, give-up-each}
 

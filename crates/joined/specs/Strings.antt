@@ -35,8 +35,7 @@ use Rattle.desk.specs.declared.Shares.{Shares}
 use Rattle.desk.specs.Desk.{Own, After, wholeTaken, sampleOf, completed, joining, descriptionTaken, taken, received}
 use Rattle.desk.specs.Effects.{at-times}
 use Rattle.memory.specs.declared.Started.the-variants.{Ready}
-use Rattle.memory.specs.Relay.{Tables, ownOf, storedShares, stranger, lacking, setUp, ordered, receivedAmong, receivedAt}
-use Rattle.memory.specs.Relay.{sender}
+use Rattle.memory.specs.Relay.{Tables, ownOf, storedShares, stranger, lacking, setUp, ordered, receivedAmong, receivedAt, sender}
 use Rattle.good.specs.Good.{Good}
 use Rattle.good.specs.Leaves.{part-sane}
 use Rattle.peace.specs.Run.{Call, receive, give-up, lookup, Got, answered, released, shown, got, run}

@@ -17,8 +17,7 @@ use Rattle.paper.specs.declared.Outcome.{Outcome}
 use Rattle.paper.specs.declared.Outcome.the-variants as O
 use Rattle.paper.specs.declared.Answer.{Answer}
 use Rattle.unit.specs.Reads.{reads-uses}
-use Rattle.memory.specs.Relay.{Tables, Done, placesOf, ownOf, sharesOf}
-use Rattle.memory.specs.Relay.{sender}
+use Rattle.memory.specs.Relay.{Tables, Done, placesOf, ownOf, sharesOf, sender}
 use Rattle.good.specs.Good.{Good, receive-good}
 use Rattle.lines.specs.Digits.{length-digits}
 use Rattle.lines.specs.Line.{outcomeText, timeText, lineOf}

@@ -7,8 +7,7 @@ use Rattle.paper.specs.Limits.{sampleMost, placesMost, rowsNeed, marksNeed, sto
 use Rattle.paper.specs.declared.Time.{Time}
 use Rattle.paper.specs.declared.Time.the-variants.{Known}
 use Rattle.sample.specs.Place.{closed}
-use Rattle.memory.specs.Relay.{Tables, Done, tables, setUp, receivedAt}
-use Rattle.memory.specs.Relay.{sender}
+use Rattle.memory.specs.Relay.{Tables, Done, tables, setUp, receivedAt, sender}
 use Rattle.lines.specs.Words.{wordEnd, wordTooLong, newLine}
 use Rattle.lines.specs.Line.{lineOf}
 

@@ -17,8 +17,7 @@ use Rattle.desk.specs.Desk.{Own, received}
 use Rattle.desk.specs.Effects.{progress}
 use Rattle.memory.specs.declared.Started.the-variants.{Ready}
 use Rattle.memory.specs.Relay.{Tables, Prepared, Done, tables, placesOf, ownOf, sharesOf, improper, short, lacking, setUp, settled}
-use Rattle.memory.specs.Relay.{ordered, receivedAt}
-use Rattle.memory.specs.Relay.{sender}
+use Rattle.memory.specs.Relay.{ordered, receivedAt, sender}
 use Rattle.good.specs.Good.{Good, ready-exactly, set-up-good, receive-good}
 use Rattle.good.specs.View.{own-seen, receive-is}
 use Rattle.lines.specs.Line.{lineOf}

@@ -18,10 +18,10 @@ use Rattle.unit.specs.Layout.{readOf, dataOf}
 use Rattle.desk.specs.declared.Shares.{Shares}
 use Rattle.desk.specs.Desk.{Own, After, added, later, laterPart, wholeTaken, sampleOf, partTaken, descriptionTaken, timed}
 use Rattle.desk.specs.Desk.{taken, received}
-use Rattle.desk.specs.Effects.{whole-uses, joining-uses}
+use Rattle.desk.specs.Effects.{whole-regular, joining-regular}
 use Rattle.memory.specs.Relay.{Tables, desksOf, ownOf, storedShares, stranger, lacking, gated, ordered, Done, settled, receivedAmong}
 use Rattle.memory.specs.Relay.{sender, receivedAt, shutOut}
-use Rattle.live.specs.Times.{each-gate, whole-timing, joining-timing, Endless, not-unknown, makes-unknown}
+use Rattle.live.specs.Times.{each-gate, Endless, not-unknown, makes-unknown}
 
 -- ---- what a unit made of the running time
 abbrev pub nextBefore : (time : ℕ) → Unit → ℕ
@@ -56,14 +56,11 @@ taken-before : (h : Shares) (s : Own) (desk time used : ℕ) (rest : List ℕ) (
     → let a = takenBefore h s desk (Known time) used rest x .answer in (a .used ≡ used) × (a .next ≡ Known (nextBefore time x))
 unfolding descriptionTaken
 taken-before h s desk time used rest (Whole w) =
-    let d = dataOf rest (Whole w) in
-    let next = Known (nextBefore time (Whole w)) in
-    (whole-uses s time used next w d, whole-timing ⊥ s used next time w d .hands)
+    let r = whole-regular s time used (Known (nextBefore time (Whole w))) w (dataOf rest (Whole w)) in
+    (r .uses, r .hands)
 taken-before h s desk time used rest (Part x) =
-    let d = dataOf rest (Part x) in
-    let next = Known (nextBefore time (Part x)) in
-    let q = sampleOf (s .place) desk time x in
-    (joining-uses h s time used next q x d, joining-timing ⊥ s used next h time q x d .hands)
+    let r = joining-regular h s time used (Known (nextBefore time (Part x))) (sampleOf (s .place) desk time x) x (dataOf rest (Part x)) in
+    (r .uses, r .hands)
 taken-before h s desk time used rest End = (refl, refl)
 taken-before h s desk time used rest (Skipped y) = (refl, refl)
 taken-before h s desk time used rest (Refused r) = (refl, refl)
@@ -120,13 +117,16 @@ as-before-call s desk time rest out = (
       (λ b. taken-as _ _ desk time (readOf rest .used) rest (readOf rest .unit) (λ e. k (sym (no _ true a (sym b)), e))))),
 )
 
--- ---- a payload: one output is lent for each call, and a call hands the tables, the time and the rest behind the bytes used to the next
-abbrev pub overPayload : (call : Tables → Sender → (rest out : List ℕ) → Done) → Tables → Sender → (outs : List (List ℕ)) → (rest : List ℕ)
-    → List Done
+-- ---- a payload: a call hands the tables, the time and the rest behind the bytes used to the next. For each call, what others do to the
+-- tables before it, and the output that is lent for it
+abbrev pub Turns : Type 0
+Turns = List ((Tables → Tables) × List ℕ)
+
+abbrev pub overPayload : (call : Tables → Sender → (rest out : List ℕ) → Done) → Tables → Sender → Turns → (rest : List ℕ) → List Done
 overPayload call s who [] rest = []
-overPayload call s who (out ∷ outs) rest =
-    let d = call s who rest out in
-    d ∷ overPayload call (d .tables) (sender (who .desk) (d .answer .next)) outs (drop (d .answer .used) rest)
+overPayload call s who (turn ∷ turns) rest =
+    let d = call (turn .0 s) who rest (turn .1) in
+    d ∷ overPayload call (d .tables) (sender (who .desk) (d .answer .next)) turns (drop (d .answer .used) rest)
 
 -- its unit number i, from 0, as the reader finds it
 abbrev pub nthUnit : (i : ℕ) → (rest : List ℕ) → Unit
@@ -143,16 +143,17 @@ rest-lasts s desk time rest out k =
     subst (λ u. Lasting (drop u rest)) (sym (before-uses s desk time rest out))
     (each (λ u. Lasting (drop u rest)) _ _ _ (λ a. k) (λ a i. k (suc i)))
 
-pub as-before : (s : Tables) (desk time : ℕ) (outs : List (List ℕ)) (rest : List ℕ) → Lasting rest
-    → overPayload receivedAt s (sender desk (Known time)) outs rest ≡ overPayload receivedBefore s (sender desk (Known time)) outs rest
+pub as-before : (s : Tables) (desk time : ℕ) (turns : Turns) (rest : List ℕ) → Lasting rest
+    → overPayload receivedAt s (sender desk (Known time)) turns rest ≡ overPayload receivedBefore s (sender desk (Known time)) turns rest
 as-before s desk time [] rest k = refl
-as-before s desk time (out ∷ outs) rest k =
-    let d = receivedBefore s (sender desk (Known time)) rest out in
+as-before s desk time (turn ∷ turns) rest k =
+    let r = turn .0 s in
+    let d = receivedBefore r (sender desk (Known time)) rest (turn .1) in
     let l = drop (d .answer .used) rest in
-    let e = before-known s desk time rest out in
-    ap (λ (d : Done). d ∷ overPayload receivedAt (d .tables) (sender desk (d .answer .next)) outs (drop (d .answer .used) rest))
-    (as-before-call s desk time rest out .1 (λ w. k 0 (w .1)))
+    let e = before-known r desk time rest (turn .1) in
+    ap (λ (d : Done). d ∷ overPayload receivedAt (d .tables) (sender desk (d .answer .next)) turns (drop (d .answer .used) rest))
+    (as-before-call r desk time rest (turn .1) .1 (λ w. k 0 (w .1)))
     ∙ ap (λ (ds : List Done). d ∷ ds)
-    (ap (λ t. overPayload receivedAt (d .tables) (sender desk t) outs l) e
-    ∙ as-before (d .tables) desk _ outs l (rest-lasts s desk time rest out k)
-    ∙ sym (ap (λ t. overPayload receivedBefore (d .tables) (sender desk t) outs l) e))
+    (ap (λ t. overPayload receivedAt (d .tables) (sender desk t) turns l) e
+    ∙ as-before (d .tables) desk _ turns l (rest-lasts r desk time rest (turn .1) k)
+    ∙ sym (ap (λ t. overPayload receivedBefore (d .tables) (sender desk t) turns l) e))

@@ -17,20 +17,14 @@ use Rattle.paper.specs.declared.Time.the-variants.{Known, Unknown}
 use Rattle.paper.specs.declared.Outcome.{Outcome}
 use Rattle.paper.specs.declared.Outcome.the-variants as O
 use Rattle.paper.specs.declared.Answer.{Answer}
-use Rattle.unit.specs.declared.Whole as W
-use Rattle.unit.specs.declared.Part as P
-use Rattle.unit.specs.declared.Description as D
 use Rattle.unit.specs.declared.Unit.{Unit}
 use Rattle.unit.specs.declared.Unit.the-variants.{End, Skipped, Refused, Whole, Part, Description}
 use Rattle.unit.specs.Layout.{readOf, dataOf}
 use Rattle.unit.specs.Reads.{ByReader, other-number, read-by-reader}
-use Rattle.sample.specs.declared.Place.{Place}
-use Rattle.style.specs.Store.{noted}
-use Rattle.style.specs.Store as S
 use Rattle.desk.specs.declared.Shares.{Shares}
-use Rattle.desk.specs.Desk.{Own, After, own, says, stay, refuse, later, laterPart, wholeTaken, completed, joining, descriptionTaken}
+use Rattle.desk.specs.Desk.{Own, After, own, says, stay, refuse, later, laterPart, descriptionTaken}
 use Rattle.desk.specs.Desk.{taken, received, isText}
-use Rattle.desk.specs.Effects.{at-times, refusalNumber}
+use Rattle.desk.specs.Effects.{at-times, refusalNumber, Regular, whole-regular, joining-regular, description-regular}
 use Rattle.memory.specs.Relay.{Tables, tables, desksOf, placesOf, openAt, ownOf, storedShares, putBack}
 use Rattle.memory.specs.Relay.{stranger, lacking, ordered, Done, done, settled, receivedAmong, sender, receivedAt, shutOut}
 use Rattle.memory.specs.Back.{put-still, put-same}
@@ -54,48 +48,12 @@ nextOf t (Refused r) = t
 nextOf t (Description w) = t
 
 -- the time that an answer hands on, and what is so where it is 18
-pub record Timing (next : Time) (E : Type 0) (a : After) : Type 0 where
-  pub hands : a .answer .next ≡ next
-  pub if-18 : refusalNumber (a .answer .outcome) ≡ 18 → E
+record Timing (next : Time) (E : Type 0) (a : After) : Type 0 where
+  hands : a .answer .next ≡ next
+  if-18 : refusalNumber (a .answer .outcome) ≡ 18 → E
 
-module _ (E : Type 0) (s : Own) (used : ℕ) (next : Time) where
-  abbrev T : After → Type 0
-  T = Timing next E
-
-  other : (o : Own) (x : Outcome) → (refusalNumber x ≡ 18 → ⊥) → T (stay o used next x)
-  other o x k = record { hands = refl; if-18 = λ e. absurd (k e) }
-
-  pub whole-timing : (time : ℕ) (w : W.Whole) (d : List ℕ) → T (wholeTaken s time used next w d)
-  unfolding wholeTaken
-  whole-timing time w d =
-      each T _ _ _ (λ q. other s _ (λ e. omega arith))
-      (λ q. each T _ _ _ (λ q. other s _ (λ e. omega arith))
-      (λ q. each T _ _ _ (λ q. other s _ (λ e. omega arith)) (λ q. other _ _ (λ e. omega arith))))
-
-  pub joining-timing : (h : Shares) (time : ℕ) (q : Place) (x : P.Part) (d : List ℕ) → T (joining h s time used next q x d)
-  unfolding joining completed
-  joining-timing h time q x d =
-      each T _ _ _ (λ k. other s _ (λ e. omega arith))
-      (λ k. each T _ _ _ (λ k. other s _ (λ e. omega arith))
-      (λ k. each T _ _ _ (λ k. other s _ (λ e. omega arith))
-      (λ k. each T _ _ _ (λ k. other s _ (λ e. omega arith))
-      (λ k. each T _ _ _ (λ k. other s _ (λ e. omega arith))
-      (λ k. each T _ _ _ (λ k. other s _ (λ e. omega arith))
-      (λ k. each T _ _ _ (λ k. other _ _ (λ e. omega arith))
-      (λ k. each T _ _ _ (λ k. other _ _ (λ e. omega arith)) (λ k. other _ _ (λ e. omega arith)))))))))
-
-  description-timing : (w : D.Description) (d : List ℕ) → T (descriptionTaken s next used w d)
-  unfolding descriptionTaken noted
-  description-timing w d = record {
-    hands = refl;
-    if-18 =
-        each N _ _ _ (λ q e. absurd (omega arith))
-        (λ q. each N _ _ _ (λ q e. absurd (omega arith))
-        (λ q. each N _ _ _ (λ q e. absurd (omega arith)) (λ q. each N _ _ _ (λ q e. absurd (omega arith)) (λ q e. absurd (omega arith)))));
-  }
-    where
-      N : S.After → Type 0
-      N a = refusalNumber (a .answer .outcome) ≡ 18 → E
+not-18 : {E : Type 0} {used : ℕ} {next : Time} {a : After} → Regular used next a → Timing next E a
+not-18 r = record { hands = r .hands; if-18 = λ e. absurd (omega (arith, r .low)) }
 
 -- a text unit at an unknown time
 abbrev NoTime : Time → Unit → Type 0
@@ -106,17 +64,19 @@ Timed x t = Timing (nextOf t x) (NoTime t x)
 
 taken-timing : (h : Shares) (s : Own) (desk : ℕ) (t : Time) (used : ℕ) (rest : List ℕ) (x : Unit) → ByReader x
     → Timed x t (taken h s desk t used rest x)
-taken-timing h s desk t used rest End k = other _ s used t s O.End (λ e. omega arith)
-taken-timing h s desk t used rest (Skipped y) k = other _ s used t s (O.Skipped y) (λ e. omega arith)
-taken-timing h s desk t used rest (Refused r) k =
-    other _ s used t s (O.Refused r) (other-number r 18 k (λ e. omega arith) (λ e. omega arith) (λ e. omega arith))
+taken-timing h s desk t used rest End k = record { hands = refl; if-18 = λ e. absurd (omega arith) }
+taken-timing h s desk t used rest (Skipped y) k = record { hands = refl; if-18 = λ e. absurd (omega arith) }
+taken-timing h s desk t used rest (Refused r) k = record {
+  hands = refl;
+  if-18 = λ e. absurd (other-number r 18 k (λ e. omega arith) (λ e. omega arith) (λ e. omega arith) e);
+}
 taken-timing h s desk t used rest (Whole w) k =
-    at-times (Timed (Whole w)) s used _ (λ time. whole-timing _ s used _ time w (dataOf rest (Whole w)))
+    at-times (Timed (Whole w)) s used _ (λ time. not-18 (whole-regular s time used _ w (dataOf rest (Whole w))))
     (record { hands = refl; if-18 = λ e. (refl, refl) }) t
 taken-timing h s desk t used rest (Part x) k =
-    at-times (Timed (Part x)) s used _ (λ time. joining-timing _ s used _ h time _ x (dataOf rest (Part x)))
+    at-times (Timed (Part x)) s used _ (λ time. not-18 (joining-regular h s time used _ _ x (dataOf rest (Part x))))
     (record { hands = refl; if-18 = λ e. (refl, refl) }) t
-taken-timing h s desk t used rest (Description w) k = description-timing _ s used t w (dataOf rest (Description w))
+taken-timing h s desk t used rest (Description w) k = not-18 (description-regular s t used w (dataOf rest (Description w)))
 
 received-timing : (h : Shares) (s : Own) (desk : ℕ) (t : Time) (rest : List ℕ)
     → Timed (readOf rest .unit) t (received h s desk t rest)

@@ -27,8 +27,7 @@ use Rattle.style.specs.Store.{noted}
 use Rattle.style.specs.Store as S
 use Rattle.desk.specs.declared.Shares.{Shares}
 use Rattle.desk.specs.Desk.{Own, After, isText, refuse, inUse, newestOf, finish, wholeTaken, completed, joining, descriptionTaken}
-use Rattle.desk.specs.Desk.{taken, received}
-use Rattle.desk.specs.Desk.{Given, givenUp}
+use Rattle.desk.specs.Desk.{taken, received, Given, givenUp}
 use Rattle.desk.specs.Effects.{not-ten, at-times}
 use Rattle.memory.specs.Relay.{ordered, yielded}
 use Rattle.good.specs.View.{View, ownIn, receives, givesUp}

@@ -13,8 +13,7 @@ use Rattle.desk.specs.declared.Shares.{Shares}
 use Rattle.desk.specs.Desk.{Own, After, newestOf}
 use Rattle.desk.specs.Effects.{unheard}
 use Rattle.memory.specs.Table.{mine}
-use Rattle.memory.specs.Relay.{Tables, placesOf, ownOf, sharesOf, stranger, lacking, ordered, Done, Released}
-use Rattle.memory.specs.Relay.{sender}
+use Rattle.memory.specs.Relay.{Tables, placesOf, ownOf, sharesOf, stranger, lacking, ordered, Done, Released, sender}
 use Rattle.good.specs.Good.{name, Good, no-stranger, no-lack, receive-good, give-up-good}
 use Rattle.good.specs.View.{View, view, ownIn, own-seen, seenAfter, receives, givesUp, receive-others, give-up-others}
 use Rattle.good.specs.View.{receive-is, receive-own, give-up-is, give-up-own, lookup-is}

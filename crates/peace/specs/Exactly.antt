@@ -25,8 +25,7 @@ use Rattle.sample.specs.Place.{kept}
 use Rattle.desk.specs.declared.Shares.{Shares}
 use Rattle.desk.specs.Desk.{Own, After, refuse, six, usedUp, completed, joining, taken, received}
 use Rattle.desk.specs.Effects.{asksPart, asks}
-use Rattle.memory.specs.Relay.{Tables, desksOf, placesOf, ownOf, sharesOf, storedShares, ordered, receivedAmong, receivedAt}
-use Rattle.memory.specs.Relay.{sender}
+use Rattle.memory.specs.Relay.{Tables, desksOf, placesOf, ownOf, sharesOf, storedShares, ordered, receivedAmong, receivedAt, sender}
 use Rattle.good.specs.Good.{Good, shares-are, below}
 use Rattle.good.specs.Fair.{Passed}
 use Rattle.good.specs.Served.{Serves, let-through}

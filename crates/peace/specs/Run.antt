@@ -15,8 +15,7 @@ use Rattle.desk.specs.declared.GivenUp.{GivenUp}
 use Rattle.desk.specs.Desk.{Own}
 use Rattle.desk.specs.Effects.{asks}
 use Rattle.memory.specs.Table.{mine}
-use Rattle.memory.specs.Relay.{Tables, desksOf, placesOf, ownOf, stranger, lacking, receivedAt, givenUpAt, lookedUp}
-use Rattle.memory.specs.Relay.{sender}
+use Rattle.memory.specs.Relay.{Tables, desksOf, placesOf, ownOf, stranger, lacking, receivedAt, givenUpAt, lookedUp, sender}
 use Rattle.good.specs.Good.{name}
 
 -- ---- a call with all that it is handed, the output and the style book lent for it included; the time of a receive may be unknown

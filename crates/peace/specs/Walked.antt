@@ -4,9 +4,8 @@ use Prim.Native.Nat.{ℕ}
 use mathlib.Core.Path.{_≡_, refl, ap, ap₂}
 use mathlib.Core.List.{List, [], _∷_}
 use Rattle.memory.specs.declared.Started.the-variants.{Ready}
-use Rattle.memory.specs.Relay.{Tables, placesOf, setUp, lookedUp}
+use Rattle.memory.specs.Relay.{Tables, placesOf, setUp, lookedUp, sender}
 use Rattle.good.specs.Counts.{Stored}
-use Rattle.memory.specs.Relay.{sender}
 use Rattle.good.specs.Good.{name, Good, set-up-good}
 use Rattle.good.specs.Walked.{walkedAt, walkedGivenUp, Alike, itself, lookup-alike, receive-alike, give-up-alike}
 use Rattle.peace.specs.Run.{Call, receive, give-up, lookup, caller, Got, answered, released, shown, got, next, run}

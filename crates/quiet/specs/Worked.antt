@@ -28,8 +28,7 @@ use Rattle.desk.specs.Desk.{says, facts, later, laterPart, sampleOf, conflicts,
 use Rattle.desk.specs.Effects.{asksPart}
 use Rattle.memory.specs.declared.Started.the-variants.{Ready}
 use Rattle.memory.specs.Relay.{Tables, desksOf, standsAt, stepped, commonStepped, improper, stranger, short, ownMarks, setUp}
-use Rattle.memory.specs.Relay.{ordered, Done, receivedAmong, yielded, Released, givenUpAmong}
-use Rattle.memory.specs.Relay.{sender}
+use Rattle.memory.specs.Relay.{ordered, Done, receivedAmong, yielded, Released, givenUpAmong, sender}
 use Rattle.good.specs.Good.{name}
 use Rattle.good.specs.Lifted.{no-relay-receive, no-relay-give-up, no-relay-lookup}
 use Rattle.good.specs.Fresh.{freshView, Exact, exactTables, set-up-exact}
