@@ -1,1 +1,3 @@
 // No code: what the writer cuts is put together again.
+#![tactic(auto)]
+

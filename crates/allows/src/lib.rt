@@ -1,4 +1,6 @@
 // What refusal 12 asks of a sample and of a description.
+#![tactic(auto)]
+
 ghost use Rattle.std.specs.Prelude.{◌≡◌};
 ghost use Rattle.writer.specs.Write.{caption, unsized, ill_formed, unwritable, undescribed};
 

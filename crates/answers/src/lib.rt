@@ -1,4 +1,6 @@
 // The relay's answer to a unit as numbers, one after the other in a lent row.
+#![tactic(auto)]
+
 ghost use Rattle.std.specs.Prelude.{◌≡◌};
 ghost use Rattle.std.proofs.lemmas.List.Edits.{sets};
 ghost use Rattle.paper.specs.Words.{facts_of, values_of};

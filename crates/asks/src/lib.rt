@@ -1,4 +1,6 @@
 // What a call asks of one desk's own things, one question a function, and how it says its answer.
+#![tactic(auto)]
+
 ghost use Rattle.std.specs.Prelude.{◌≡◌};
 ghost use Rattle.finished.specs.Times.{late};
 ghost use Rattle.sample.specs.Head.{alone};
@@ -13,21 +15,21 @@ use sample::Head;
 use unit::{Part, Reading, Unit};
 
 // The numbers of the sample after the call, and the answer.
-#[derive(Drop)]
+#[derive(Clone, Copy)]
 pub struct Settled {
     pub head: Head,
     pub answer: Answer,
 }
 
 // A part as it came: the bytes that it uses, and the part.
-#[derive(Drop)]
+#[derive(Clone, Copy)]
 pub struct Arrival {
     pub used: usize,
     pub part: Part,
 }
 
 // What bars a part that opens a sample.
-#[derive(Drop)]
+#[derive(Clone, Copy)]
 pub enum Bar {
     Free,
     Refused(Refusal),

@@ -1,4 +1,6 @@
 // A place of which nothing is kept: a free one, and that of a new sample.
+#![tactic(auto)]
+
 ghost use Rattle.std.specs.Prelude.{◌≡◌, replicate};
 ghost use Rattle.paper.specs.Limits.{sample_most, parts_most};
 ghost use Rattle.sample.specs.Head.{head_of};

@@ -1,4 +1,6 @@
 // A part that opens a sample.
+#![tactic(auto)]
+
 ghost use Rattle.std.specs.Prelude.{◌≡◌, false, List, ℕ, ◌<◌};
 ghost use Rattle.sample.specs.Place.{closed, opened};
 ghost use Rattle.desk.specs.Desk.{own, turn, left, joining};

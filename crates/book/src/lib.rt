@@ -1,4 +1,6 @@
 // The style book: its check, and looking an index up in it.
+#![tactic(auto)]
+
 ghost use Rattle.std.specs.Prelude.{◌≡◌};
 ghost use Rattle.style.specs.Record.{filled};
 ghost use Rattle.style.specs.Book.{broken, falling, bad_record, count_of, check_of, entry_from, entry_of};

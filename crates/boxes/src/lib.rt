@@ -1,10 +1,12 @@
 // The box walk of document 01: what stands at a place of the modifiers, and a box's contents as a part of them.
+#![tactic(auto)]
+
 ghost use Rattle.std.specs.Prelude.{◌≡◌};
 ghost use Rattle.boxes.specs.Step.{refused_at, step_of, contents_of};
 
 use paper::Refusal;
 
-#[derive(Drop)]
+#[derive(Clone, Copy)]
 pub enum Found {
     End,
     // the four bytes of the type, as a big-endian number
@@ -13,7 +15,7 @@ pub enum Found {
 }
 
 // What stands at a place, and the place of the next box; at the end and on refusal that is the place given.
-#[derive(Drop)]
+#[derive(Clone, Copy)]
 pub struct Stepped {
     pub found: Found,
     pub next: usize,

@@ -1,4 +1,6 @@
 // The chart of well-formed UTF-8 byte sequences, and the length of a character by it.
+#![tactic(auto)]
+
 ghost use Rattle.std.specs.Prelude.{◌≡◌, drop};
 ghost use Rattle.laws.specs.Rows.{◌⇒◌⁏◌, ◌<?◌};
 ghost use Rattle.text.specs.Chart.{chart, within, follows, charted};

@@ -1,4 +1,6 @@
 // Whether a sample is open among the first m places of the lent table: it is searched only where a place bears its time.
+#![tactic(auto)]
+
 ghost use Rattle.std.specs.Prelude.{◌≡◌, take};
 ghost use Rattle.laws.specs.Rows.{◌⇒◌⁏◌, ◌=?◌};
 ghost use Rattle.laws.specs.Table.{bit, count};

@@ -1,4 +1,6 @@
 // A sample that does not fit the size limit: it is cut by document 01's rules, and one of its parts is written.
+#![tactic(auto)]
+
 ghost use Rattle.std.specs.Prelude.{◌≡◌, true, false, ◌<◌, ◌≤◌, ◌+◌, ◌-◌, ◌/◌, length};
 ghost use Rattle.paper.specs.Limits.{sample_most};
 ghost use Rattle.writer.specs.Cuts.{Counted};

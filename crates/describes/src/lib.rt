@@ -1,4 +1,6 @@
 // Writing a description's one payload: document 01, 'Writing and boxes'.
+#![tactic(auto)]
+
 ghost use Rattle.std.specs.Prelude.{◌≡◌};
 ghost use Rattle.writer.specs.Write.{after, described};
 

@@ -1,9 +1,11 @@
 // One call's work for one desk, as definitions: what it has, what a call leaves and answers. No function: those are in `asks`, `ends`,
 // `grows`, `begins`, `singles`, `settle` and `others`.
+#![tactic(auto)]
+
 use paper::Refusal;
 
 // How many samples the desk has open, the common use, and how many desks there are.
-#[derive(Drop)]
+#[derive(Clone, Copy)]
 pub struct Shares {
     pub opens: usize,
     pub common: usize,
@@ -11,7 +13,7 @@ pub struct Shares {
 }
 
 // What a give-up answers.
-#[derive(Drop)]
+#[derive(Clone, Copy)]
 pub enum GivenUp {
     Freed,
     Refused(Refusal),

@@ -1,4 +1,6 @@
 // A sample ends: all its parts are there, and it is joined or spoiled, or it is given up. Its time is marked finished.
+#![tactic(auto)]
+
 ghost use Rattle.std.specs.Prelude.{◌≡◌, List, ℕ, set};
 ghost use Rattle.laws.specs.Rows.{◌⇒◌⁏◌};
 ghost use Rattle.finished.specs.Times.{marked_row, marked_used};

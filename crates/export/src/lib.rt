@@ -1,4 +1,6 @@
 // The relay for C and Rust: numbers and slices only. An answer goes as numbers into a lent row.
+#![tactic(auto)]
+
 ghost use Rattle.std.specs.Prelude.{◌≡◌, length, drop};
 ghost use Rattle.std.proofs.lemmas.List.Edits.{sets};
 ghost use Rattle.paper.specs.Limits.{sample_most, places, rows_need, marks_need, stores_need};

@@ -1,4 +1,6 @@
 // The table of layouts: where the fields of each TYPE stand, and what of LEN is data.
+#![tactic(auto)]
+
 ghost use Rattle.std.specs.Prelude.{◌≡◌};
 ghost use Rattle.unit.specs.Layout.{whole_at, string_at, modifiers_at, description_at, fields_of};
 

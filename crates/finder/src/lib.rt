@@ -1,4 +1,6 @@
 // The finder: the character at any place of any bytes. u is 0 for UTF-8, and anything else for UTF-16 big-endian.
+#![tactic(auto)]
+
 ghost use Rattle.std.specs.Prelude.{◌≡◌, drop};
 ghost use Rattle.text.specs.Chart.{unit_at};
 ghost use Rattle.text.specs.Unicode.{character};

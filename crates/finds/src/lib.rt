@@ -1,4 +1,6 @@
 // Where a place stands among the first m of the lent table: the sender's sample, the lowest free one.
+#![tactic(auto)]
+
 ghost use Rattle.std.specs.Prelude.{◌≡◌, length, take};
 ghost use Rattle.laws.specs.Rows.{◌and◌, ◌=?◌};
 ghost use Rattle.laws.specs.Table.{seek};

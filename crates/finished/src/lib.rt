@@ -1,4 +1,6 @@
 // A desk's finished times: its own sixteen numbers of the lent row, the oldest first, with how many of them are in use.
+#![tactic(auto)]
+
 ghost use Rattle.std.specs.Prelude.{◌≡◌, min};
 ghost use Rattle.paper.specs.Limits.{finished_most};
 ghost use Rattle.finished.specs.Times.{late, moved_row, marked_row, marked_used};

@@ -1,4 +1,6 @@
 // A place of the lent table is closed; the first m are.
+#![tactic(auto)]
+
 ghost use Rattle.std.specs.Prelude.{◌≡◌};
 ghost use Rattle.laws.specs.Rows.{◌and◌, ◌<?◌};
 ghost use Rattle.sample.specs.Place.{closed};

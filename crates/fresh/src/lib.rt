@@ -1,4 +1,6 @@
 // Set-up: what n desks need is made fresh. Where it is refused, that is for 0 desks, nothing is written.
+#![tactic(auto)]
+
 ghost use Rattle.std.specs.Prelude.{◌≡◌, ◌≤◌, replicate};
 ghost use Rattle.std.proofs.lemmas.List.Edits.{sets};
 ghost use Rattle.paper.specs.Limits.{desks_most, head_size, places, rows_need, stores_need};

@@ -1,4 +1,6 @@
 // Refusals 1 and 2, asked of the numbers and of the lengths of all that is lent.
+#![tactic(auto)]
+
 ghost use Rattle.std.specs.Prelude.{◌≡◌, ◌≤◌, length};
 ghost use Rattle.paper.specs.Limits.{desks_most};
 ghost use Rattle.memory.specs.Relay.{desks_of, improper, stranger, lacks, lacks_three};
@@ -11,7 +13,7 @@ use paper::limits::{
 };
 
 // Whether a call goes through to the desk.
-#[derive(Drop)]
+#[derive(Clone, Copy)]
 pub enum Gate {
     Through,
     Shut(Refusal),

@@ -1,1 +1,3 @@
 // No code: what every call of the relay keeps to.
+#![tactic(auto)]
+

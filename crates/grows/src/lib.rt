@@ -1,4 +1,6 @@
 // A part of a sample that is open.
+#![tactic(auto)]
+
 ghost use Rattle.std.specs.Prelude.{◌≡◌, true, List, ℕ};
 ghost use Rattle.desk.specs.Desk.{own, turn, left, joining};
 ghost use Rattle.asks.specs.Settled.{before, after};

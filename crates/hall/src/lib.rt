@@ -1,4 +1,6 @@
 // A relay with its memory for eight desks and an output in one value, for programs: covered code over `held`, with no walk of its own.
+#![tactic(auto)]
+
 ghost use Rattle.std.specs.Prelude.{◌≡◌, replicate};
 ghost use Rattle.paper.specs.Limits.{sample_most};
 ghost use Rattle.memory.specs.Relay.{set_up, received_at, given_up_at};
@@ -9,7 +11,7 @@ use paper::limits::{MARKS_MOST, PLACES_MOST, ROWS_MOST, SAMPLE_MOST, STORES_MOST
 use paper::{Answer, Name, Sender};
 use sample::Place;
 
-#[derive(Drop)]
+#[derive(Clone, Copy)]
 pub struct Hall {
     pub places: [Place; PLACES_MOST],
     pub rows: [u32; ROWS_MOST],
@@ -18,13 +20,13 @@ pub struct Hall {
     pub out: [u8; SAMPLE_MOST],
 }
 
-#[derive(Drop)]
+#[derive(Clone, Copy)]
 pub struct Heard {
     pub hall: Hall,
     pub answer: Answer,
 }
 
-#[derive(Drop)]
+#[derive(Clone, Copy)]
 pub struct Freed {
     pub hall: Hall,
     pub answer: GivenUp,

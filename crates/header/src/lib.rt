@@ -1,4 +1,6 @@
 // Putting a unit's header down. That of a part is in `part_header`.
+#![tactic(auto)]
+
 ghost use Rattle.std.specs.Prelude.{◌≡◌, length};
 ghost use Rattle.std.proofs.lemmas.List.Edits.{sets};
 ghost use Rattle.unit.specs.Head.{whole_head, description_head, head_of};

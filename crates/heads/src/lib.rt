@@ -1,4 +1,6 @@
 // The numbers of a place of the lent table, read and stored; its arrays stay where they stand.
+#![tactic(auto)]
+
 ghost use Rattle.std.specs.Prelude.{◌≡◌, ◌<◌, length, get_or, set};
 ghost use Rattle.sample.specs.Head.{head_of};
 ghost use Rattle.sample.specs.Place.{closed};

@@ -1,5 +1,7 @@
 // The relay over a table by value, for callers that keep it in a local: a covered function may name no reference to places, so the three
 // calls that lend the table are walked by hand here, and `hall` and `list` stand on them.
+#![tactic(auto)]
+
 ghost use Rattle.std.specs.Prelude.{◌≡◌};
 ghost use Rattle.memory.specs.Lent.{SetsUp, Receives, GivesUp};
 ghost use Rattle.held.specs.Held.{begun, called, yielded, kept, kept_three};
@@ -10,19 +12,19 @@ use paper::limits::PLACES_MOST;
 use paper::{Answer, Name, Sender};
 use sample::Place;
 
-#[derive(Drop)]
+#[derive(Clone, Copy)]
 pub struct Begun {
     pub places: [Place; PLACES_MOST],
     pub answer: Started,
 }
 
-#[derive(Drop)]
+#[derive(Clone, Copy)]
 pub struct Called {
     pub places: [Place; PLACES_MOST],
     pub answer: Answer,
 }
 
-#[derive(Drop)]
+#[derive(Clone, Copy)]
 pub struct Yielded {
     pub places: [Place; PLACES_MOST],
     pub answer: GivenUp,

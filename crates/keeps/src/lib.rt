@@ -1,4 +1,6 @@
 // A part is kept; and how many are still missing.
+#![tactic(auto)]
+
 ghost use Rattle.std.specs.Prelude.{◌≡◌, ◌+◌, min};
 ghost use Rattle.paper.specs.Limits.{sample_most};
 ghost use Rattle.sample.specs.Head.{whole, alone};

@@ -1,4 +1,6 @@
 // A unit's header with its data, at the front of the output.
+#![tactic(auto)]
+
 ghost use Rattle.std.specs.Prelude.{◌++◌, ◌≤◌, ◌+◌, length};
 ghost use Rattle.paper.specs.Limits.{sample_most};
 ghost use Rattle.unit.specs.Layout.{string_part, modifiers_part};

@@ -1,4 +1,6 @@
 // How long the parts of a complete sample are in THIS order, put together: its string, and all of it.
+#![tactic(auto)]
+
 ghost use Rattle.std.specs.Prelude.{◌≡◌, ◌≤◌, length};
 ghost use Rattle.laws.specs.Rows.{◌⇒◌⁏◌, ◌=?◌};
 ghost use Rattle.joining.specs.Joining.{together, string_of};

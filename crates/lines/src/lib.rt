@@ -1,4 +1,6 @@
 // Numbers and answers as text, laid into a lent output: what does not fit is left out, and the answer is the place behind the text.
+#![tactic(auto)]
+
 ghost use Rattle.std.specs.Prelude.{◌≡◌, [], ◌∷◌, ◌++◌, ◌+◌, ◌<◌};
 ghost use Rattle.lines.specs.Digits.{digit_zero, digits};
 ghost use Rattle.lines.specs.Line.{outcome_text, time_text, line_of};

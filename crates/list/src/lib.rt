@@ -1,4 +1,6 @@
 // The listing of one payload: a line a unit.
+#![tactic(auto)]
+
 ghost use Rattle.std.specs.Prelude.{◌≡◌, length};
 ghost use Rattle.paper.specs.declared.Time.TheVariants.{Known};
 ghost use Rattle.memory.specs.Relay.{tables};

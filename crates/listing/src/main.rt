@@ -1,4 +1,6 @@
 // Lists the payload on standard input: a line a unit, on standard output.
+#![tactic(auto)]
+
 use libc::{STDIN_FILENO, STDOUT_FILENO};
 
 // One byte more than a payload that is listed has.

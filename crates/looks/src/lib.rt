@@ -1,4 +1,6 @@
 // Which places a call looks at, and which one it keeps or frees.
+#![tactic(auto)]
+
 ghost use Rattle.std.specs.Prelude.{◌≡◌};
 ghost use Rattle.memory.specs.Relay.{desks_of};
 ghost use Rattle.looks.specs.Looks.{reach_of, reach_at, reach_for, asked_of, spot_of, sender_of, freed_at};

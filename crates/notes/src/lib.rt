@@ -1,4 +1,6 @@
 // A description unit, TYPE 5: what it changes in a desk's store, and what is answered.
+#![tactic(auto)]
+
 ghost use Rattle.std.specs.Prelude.{◌≡◌};
 ghost use Rattle.style.specs.Store.{improper, left, noted};
 

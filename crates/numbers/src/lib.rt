@@ -1,5 +1,7 @@
 // Answers as numbers, one after the other in a lent row, and from numbers the name of a sample and who sends a unit. The answer to a unit
 // is in `answers`.
+#![tactic(auto)]
+
 ghost use Rattle.std.specs.Prelude.{◌≡◌, [], ◌∷◌, set};
 ghost use Rattle.std.proofs.lemmas.List.Edits.{sets};
 ghost use Rattle.desk.specs.Desk.{given_up_number};

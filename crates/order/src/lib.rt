@@ -1,4 +1,6 @@
 // Whether a complete sample is joined or spoiled: the order of its parts' TYPEs, and its length.
+#![tactic(auto)]
+
 ghost use Rattle.std.specs.Prelude.{◌≡◌, List, ℕ, length, take};
 ghost use Rattle.paper.specs.Limits.{parts_most};
 ghost use Rattle.joining.specs.Joining.{together, ordered, sound};

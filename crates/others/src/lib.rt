@@ -1,4 +1,6 @@
 // A unit that is no part: it goes to what takes it, or is told.
+#![tactic(auto)]
+
 ghost use Rattle.std.specs.Prelude.{◌≡◌, List, ℕ};
 ghost use Rattle.sample.specs.declared.Place.{Place};
 ghost use Rattle.desk.specs.Desk.{own, turn, left, whole_at};

@@ -1,11 +1,13 @@
 // The vocabulary of document 01, with the refusals of the requests that landed: refusals, limits, and what a call answers.
+#![tactic(auto)]
+
 pub mod limits;
 
 ghost use Rattle.std.specs.Prelude.{◌≡◌};
 ghost use Rattle.paper.specs.Words.{number_of, kind_of};
 
 // Why a call is refused; `number_of` gives each its number in the paper.
-#[derive(Drop)]
+#[derive(Clone, Copy)]
 pub enum Refusal {
     Desk,
     Output,
@@ -28,28 +30,28 @@ pub enum Refusal {
 }
 
 // The running time of a unit. Behind a line whose duration is not known yet it is unknown; every number is a time.
-#[derive(Drop)]
+#[derive(Clone, Copy)]
 pub enum Time {
     Known(u32),
     Unknown,
 }
 
 // The name of a sample: its desk and its time.
-#[derive(Drop)]
+#[derive(Clone, Copy)]
 pub struct Name {
     pub desk: usize,
     pub time: u32,
 }
 
 // Who sends a unit: a desk, and the running time.
-#[derive(Drop)]
+#[derive(Clone, Copy)]
 pub struct Sender {
     pub desk: usize,
     pub time: Time,
 }
 
 // What is told of a sample that is handed out: its time, U, SIDX, SDUR, and how long its string and all of it are.
-#[derive(Drop)]
+#[derive(Clone, Copy)]
 pub struct Facts {
     pub time: u32,
     pub u: usize,
@@ -59,7 +61,7 @@ pub struct Facts {
     pub sample: usize,
 }
 
-#[derive(Drop)]
+#[derive(Clone, Copy)]
 pub enum Outcome {
     End,
     Whole(Facts),
@@ -74,7 +76,7 @@ pub enum Outcome {
 }
 
 // What a call answers: the bytes used, the next running time, the outcome.
-#[derive(Drop)]
+#[derive(Clone, Copy)]
 pub struct Answer {
     pub used: usize,
     pub next: Time,

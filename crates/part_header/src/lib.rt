@@ -1,4 +1,6 @@
 // Putting the header of a part down: TYPE 2, 3 and 4.
+#![tactic(auto)]
+
 ghost use Rattle.std.specs.Prelude.{◌≡◌, length};
 ghost use Rattle.std.proofs.lemmas.List.Edits.{sets};
 ghost use Rattle.unit.specs.Head.{string_head, modifiers_head, part_head};

@@ -1,4 +1,6 @@
 // What a part is to an open sample, by its numbers: whether its THIS is kept, whether it agrees, whether it is too much.
+#![tactic(auto)]
+
 ghost use Rattle.std.specs.Prelude.{◌≡◌};
 ghost use Rattle.laws.specs.Rows.{◌and◌, ◌<?◌};
 ghost use Rattle.sample.specs.Head.{alone};

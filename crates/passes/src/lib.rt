@@ -1,5 +1,7 @@
 // The pass over a string that is cut, with no table of parts: the work grows with the sample's length and with the size limit, and not with
 // the number of the part that is wanted.
+#![tactic(auto)]
+
 ghost use Rattle.std.specs.Prelude.{◌≡◌, ◌<◌, ◌≤◌, length};
 ghost use Rattle.writer.specs.Cut.{strings};
 ghost use Rattle.writer.specs.Find.{found, turned, sought};

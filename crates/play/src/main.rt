@@ -1,4 +1,6 @@
 // Plays the script on standard input: a line is a call of the relay or of a leaf, and what it answers is printed behind it.
+#![tactic(auto)]
+
 mod characters;
 mod cutting;
 mod desks;

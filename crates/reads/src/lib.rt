@@ -1,4 +1,6 @@
 // Reading the unit at the front of a rest: the order of answers, with the limits of refusal 4 and, behind them, 17.
+#![tactic(auto)]
+
 ghost use Rattle.std.specs.Prelude.{◌≡◌};
 ghost use Rattle.unit.specs.Layout.{least, bad_whole, bad_part, bad_description, bad_fields, broken, judged, text_judged, read_of};
 

@@ -1,4 +1,6 @@
 // Records of 260 bytes, in a style book and in a desk's store alike.
+#![tactic(auto)]
+
 ghost use Rattle.std.specs.Prelude.{◌≡◌, ◌<◌};
 ghost use Rattle.style.specs.Record.{record_at, index_of, description_of};
 

@@ -1,5 +1,7 @@
 // The relay for up to eight desks over memory that the caller lends: set-up, receive, give-up and lookup. What decides is in `gate`,
 // `looks`, `takes` and `yields`; here are the functions over the lent places, which look at them, lend one and hand on all else.
+#![tactic(auto)]
+
 ghost use Rattle.std.specs.Prelude.{◌≡◌, true, false, ◌<◌, length, get_or};
 ghost use Rattle.sample.specs.Place.{closed};
 ghost use Rattle.unit.specs.Layout.{read_of};

@@ -1,4 +1,6 @@
 // Whether a part repeats the kept one of its THIS.
+#![tactic(auto)]
+
 ghost use Rattle.std.specs.Prelude.{◌≡◌, get_or};
 ghost use Rattle.sample.specs.Head.{whole};
 ghost use Rattle.sample.specs.Place.{stands, repeats};

@@ -1,11 +1,13 @@
 // The place of one open sample, and what document 01's 'Joining' decides about it, as definitions. No function: those are in `bare`,
 // `keeps`, `parts`, `repeats`, `order`, `lengths` and `together`.
+#![tactic(auto)]
+
 use paper::limits::{PARTS_MOST, SAMPLE_MOST};
 
 // An open sample. U, SIDX and SLEN are those of its first TYPE 2 part, once `told`; bit THIS - 1 of `mask`, and place THIS - 1 of
 // `kinds`, `starts` and `lens`, are part THIS's; the first `filled` of the bytes are in use.
 #[repr(C)]
-#[derive(Drop)]
+#[derive(Clone, Copy)]
 pub struct Place {
     pub used: bool,
     pub desk: usize,
@@ -25,7 +27,7 @@ pub struct Place {
 }
 
 // The numbers of a place, by value.
-#[derive(Drop)]
+#[derive(Clone, Copy)]
 pub struct Head {
     pub used: bool,
     pub desk: usize,
@@ -41,7 +43,7 @@ pub struct Head {
 }
 
 // How long a sample's string is, and all of it.
-#[derive(Drop)]
+#[derive(Clone, Copy)]
 pub struct Lengths {
     pub string: usize,
     pub sample: usize,

@@ -1,4 +1,6 @@
 // A part of a sample that is cut goes out: the string part that was found, or a block of the modifiers.
+#![tactic(auto)]
+
 ghost use Rattle.std.specs.Prelude.{◌≡◌, ◌<◌, ◌+◌, ◌*◌, length};
 ghost use Rattle.laws.specs.Region.{part};
 ghost use Rattle.unit.specs.Layout.{string_part, modifiers_part};

@@ -1,5 +1,7 @@
 // A part of one desk's sample, over that desk's own things: its open sample, its finished times, its marks, the output.
 // The sample's numbers go by value; its arrays are lent where they stand.
+#![tactic(auto)]
+
 ghost use Rattle.std.specs.Prelude.{◌≡◌, false, List, ℕ, ◌<◌};
 ghost use Rattle.paper.specs.declared.Time.TheVariants.{Known};
 ghost use Rattle.desk.specs.Desk.{own, turn, left, later_part, part_taken, part_at};

@@ -1,4 +1,6 @@
 // A lookup: over one desk's store, and over the marks and the stores of all desks.
+#![tactic(auto)]
+
 ghost use Rattle.std.specs.Prelude.{◌≡◌};
 ghost use Rattle.style.specs.Shown.{shown};
 ghost use Rattle.memory.specs.Relay.{looked_up};

@@ -1,4 +1,6 @@
 // The units that come in one piece: TYPE 1 and TYPE 5.
+#![tactic(auto)]
+
 ghost use Rattle.std.specs.Prelude.{◌≡◌, List, ℕ};
 ghost use Rattle.sample.specs.declared.Place.{Place};
 ghost use Rattle.desk.specs.Desk.{own, turn, left, later, whole_taken, description_taken};

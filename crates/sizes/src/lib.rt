@@ -1,4 +1,6 @@
 // How much a caller lends: the bytes of a place, and what n desks need, in elements; 0 where n is not 1 to 8.
+#![tactic(auto)]
+
 ghost use Rattle.std.specs.Prelude.{◌≡◌, ℕ, ◌*◌, ◌≤◌};
 ghost use Rattle.paper.specs.Limits.{store_size, places, rows_need, marks_need, stores_need};
 ghost use Rattle.sizes.specs.Sizes.{place_size, needed};

@@ -1,4 +1,6 @@
 // The slots of a desk's store: those that leave the window are forgotten, and a description is put down.
+#![tactic(auto)]
+
 ghost use Rattle.std.specs.Prelude.{◌≡◌, ◌*◌};
 ghost use Rattle.std.proofs.lemmas.List.Edits.{sets};
 ghost use Rattle.paper.specs.Limits.{record_size};

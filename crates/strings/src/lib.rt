@@ -1,4 +1,6 @@
 // A string, character by character: whether it is well-formed, and its furthest boundary within a limit. u is as in `finder`.
+#![tactic(auto)]
+
 ghost use Rattle.std.specs.Prelude.{◌≡◌};
 ghost use Rattle.text.specs.Unicode.{well_formed, boundary};
 ghost use Rattle.text.specs.Runs.{ascii, walked_to, block_end};

@@ -1,16 +1,18 @@
 // Descriptions, as definitions: records of 260 bytes, the style book, a desk's window of in-band values, and what is shown. No function:
 // those are in `records`, `book`, `window`, `slots`, `notes` and `shows`.
+#![tactic(auto)]
+
 use paper::{Outcome, Refusal};
 
 // How many records a good book has; or the refusal, and the number of the first bad record, from 0.
-#[derive(Drop)]
+#[derive(Clone, Copy)]
 pub enum Checked {
     Good(usize),
     Refused(Refusal, usize),
 }
 
 // What a description unit gives: the newest value from now on, and the outcome.
-#[derive(Drop)]
+#[derive(Clone, Copy)]
 pub struct Noted {
     pub newest: usize,
     pub outcome: Outcome,

@@ -1,5 +1,7 @@
 // A call with a part: 1 and 2, then the desk's own things are lent to what takes it, by the shares that are stored; and its place is
 // counted.
+#![tactic(auto)]
+
 ghost use Rattle.std.specs.Prelude.{◌≡◌, false, List, ℕ, ◌<◌, length};
 ghost use Rattle.sample.specs.Place.{closed};
 ghost use Rattle.asks.specs.Settled.{before, after, open_in};

@@ -1,5 +1,7 @@
 // The stored numbers in the head of the marks: how many samples each desk has open, and the common use. They are counted by one place,
 // which was open or not before a call and is or not after it.
+#![tactic(auto)]
+
 ghost use Rattle.std.specs.Prelude.{◌≡◌, not, ◌+◌, ◌<◌};
 ghost use Rattle.laws.specs.Table.{bit};
 ghost use Rattle.paper.specs.Limits.{desks_most};

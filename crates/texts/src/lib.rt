@@ -1,4 +1,6 @@
 // Refusal 17: whether the text of a unit is well-formed, which it has to be by itself.
+#![tactic(auto)]
+
 ghost use Rattle.std.specs.Prelude.{◌≡◌};
 ghost use Rattle.unit.specs.declared.Unit.TheVariants as U;
 ghost use Rattle.unit.specs.Layout.{ill_text};

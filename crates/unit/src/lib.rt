@@ -1,9 +1,11 @@
 // The units of document 01, as definitions: their layouts, read and written, and their limits. No function: those are in `reads` and
 // `header`.
+#![tactic(auto)]
+
 use paper::Refusal;
 
 // TYPE 1. `start` and `len` say where its data, the sample, stands in the rest.
-#[derive(Drop)]
+#[derive(Clone, Copy)]
 pub struct Whole {
     pub u: usize,
     pub sidx: usize,
@@ -14,7 +16,7 @@ pub struct Whole {
 }
 
 // TYPE 2, 3 or 4, by `kind`; in TYPE 3 and 4, which do not have them, u, sidx and slen are 0.
-#[derive(Drop)]
+#[derive(Clone, Copy)]
 pub struct Part {
     pub kind: usize,
     pub total: usize,
@@ -28,14 +30,14 @@ pub struct Part {
 }
 
 // TYPE 5.
-#[derive(Drop)]
+#[derive(Clone, Copy)]
 pub struct Description {
     pub sidx: usize,
     pub start: usize,
     pub len: usize,
 }
 
-#[derive(Drop)]
+#[derive(Clone, Copy)]
 pub enum Unit {
     End,
     // the TYPE
@@ -47,7 +49,7 @@ pub enum Unit {
 }
 
 // What stands at the front of a rest, and how many bytes of the rest it uses.
-#[derive(Drop)]
+#[derive(Clone, Copy)]
 pub struct Reading {
     pub used: usize,
     pub unit: Unit,

@@ -1,4 +1,6 @@
 // A desk's window of in-band values: what lies in it, what is held, where it moves.
+#![tactic(auto)]
+
 ghost use Rattle.std.specs.Prelude.{◌≡◌};
 ghost use Rattle.style.specs.Store.{minus, in_window, moved, carries, held, in_store, stays, repeated};
 

@@ -1,1 +1,3 @@
 // No code: document 01's twelve cases, one statement over one list.
+#![tactic(auto)]
+

@@ -1,4 +1,6 @@
 // Writing one payload of a sample: document 01, 'Writing and boxes'.
+#![tactic(auto)]
+
 ghost use Rattle.std.specs.Prelude.{◌≡◌};
 ghost use Rattle.writer.specs.Write.{caption, after, written};
 

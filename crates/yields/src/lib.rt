@@ -1,4 +1,6 @@
 // A call that opens no place, with a unit that is no part or a give-up: 1 and 2, then the desk's own things are lent to what settles it.
+#![tactic(auto)]
+
 ghost use Rattle.std.specs.Prelude.{◌≡◌};
 ghost use Rattle.laws.specs.Rows.{◌<?◌};
 ghost use Rattle.sample.specs.declared.Place.{Place};
