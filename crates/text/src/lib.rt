@@ -2,7 +2,6 @@
 // `strings`.
 #![tactic(auto)]
 
-
 // From the first number to the second, both among them.
 #[derive(Clone, Copy)]
 pub struct Range(pub usize, pub usize);
