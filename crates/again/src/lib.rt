@@ -1,3 +1,2 @@
 // No code: what the writer cuts is put together again.
 #![tactic(auto)]
-

@@ -1,6 +1,6 @@
 -- A record of document 01, in a style book and in a desk's store alike: byte 0 the index, byte 1 zero, bytes 2 and 3 the length,
 -- then the description and zeros. Assumes nothing.
-use Rattle.std.specs.Prelude.{ℕ, ◌+◌, ◌*◌, ◌%◌, List, [], ◌∷◌, ◌++◌, Bool, false, length, replicate}
+use Rattle.std.specs.Prelude.{ℕ, ◌*◌, ◌%◌, List, [], ◌∷◌, ◌++◌, Bool, false, length, replicate}
 use Rattle.std.proofs.lemmas.List.Edits.{sets}
 use Rattle.laws.specs.Rows.{◌or◌, ◌<?◌}
 use Rattle.laws.specs.Region.{part}

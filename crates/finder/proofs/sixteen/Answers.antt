@@ -2,7 +2,7 @@
 use mathlib.Core.Path.{refl, sym}
 use Rattle.laws.specs.Rows.{yes, no, and_is}
 use Rattle.text.specs.Chart.{◌to◌, within, paired}
-use Rattle.text.specs.Laws.{saw, saw-not}
+use Rattle.text.specs.Laws.{saw}
 use Rattle.text.specs.Finder.{by_units}
 use Rattle.finder.proofs.sixteen.Goals as goal
 
@@ -26,7 +26,7 @@ returns-then-not-within c =
     let u = c.unit-a.ensures in
     let a = saw (within (0x0000 to 0xD7FF)) _ _ _ _ c.within.ensures u c.if-within.false in
     let b = saw (within (0xE000 to 0xFFFF)) _ _ _ _ c.within-2.ensures u c.if-within-2.false in
-    let h = saw-not (within (0xD800 to 0xDBFF)) _ _ _ _ c.within-3.ensures u c.if-not-within.true in
+    let h = saw (within (0xD800 to 0xDBFF)) _ _ _ _ c.within-3.ensures u c.if-not-within.true in
     by_units _ _ (no _ _ (sym (no _ _ a (sym b))) (no _ _ (sym (no _ _ h refl)) refl))
 
 pub returns-then-within-3 : goal.returns-then-within-3
@@ -35,7 +35,7 @@ returns-then-within-3 c =
     let u = c.unit-a.ensures in
     let a = saw (within (0x0000 to 0xD7FF)) _ _ _ _ c.within.ensures u c.if-within.false in
     let b = saw (within (0xE000 to 0xFFFF)) _ _ _ _ c.within-2.ensures u c.if-within-2.false in
-    let h = saw-not (within (0xD800 to 0xDBFF)) _ _ _ _ c.within-3.ensures u c.if-not-within.false in
+    let h = saw (within (0xD800 to 0xDBFF)) _ _ _ _ c.within-3.ensures u c.if-not-within.false in
     let l = saw (within (0xDC00 to 0xDFFF)) _ _ _ _ c.within-4.ensures c.unit.ensures c.if-within-3.true in
     by_units _ _ (no _ _ (sym (no _ _ a (sym b))) (yes _ _ (and_is _ _ h l) refl))
 
@@ -45,6 +45,6 @@ returns c =
     let u = c.unit-a.ensures in
     let a = saw (within (0x0000 to 0xD7FF)) _ _ _ _ c.within.ensures u c.if-within.false in
     let b = saw (within (0xE000 to 0xFFFF)) _ _ _ _ c.within-2.ensures u c.if-within-2.false in
-    let h = saw-not (within (0xD800 to 0xDBFF)) _ _ _ _ c.within-3.ensures u c.if-not-within.false in
+    let h = saw (within (0xD800 to 0xDBFF)) _ _ _ _ c.within-3.ensures u c.if-not-within.false in
     let l = saw (within (0xDC00 to 0xDFFF)) _ _ _ _ c.within-4.ensures c.unit.ensures c.if-within-3.false in
     by_units _ _ (no _ _ (sym (no _ _ a (sym b))) (no _ _ (sym (yes _ _ h (sym l))) refl))

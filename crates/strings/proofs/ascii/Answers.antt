@@ -1,0 +1,30 @@
+-- `strings::ascii` meets its contract. The invariant: what was seen so far, and what is still ahead, decide. Assumes nothing.
+use Prim.Native.Nat.{◌≤◌, ◌+◌, ◌-◌}
+use native.Mathlib.Omega.{arith}
+use mathlib.Core.Path.{◌≡◌, sym, ap, ◌∙◌}
+use mathlib.Core.Logic.{⊎_elim}
+use mathlib.Core.Bool.{Bool}
+use lib.ListN.{length, drop}
+use Rattle.text.specs.Runs.{ascii, seen, seen_none, seen_one, seen_other, seen_end}
+use Rattle.strings.proofs.ascii.Goals as goal
+
+pub loop-i-init : goal.loop-i-init
+loop-i-init c = (omega arith, seen_none _)
+
+pub loop-i-preserved : goal.loop-i-preserved
+loop-i-preserved c =
+    let l = c.loop-i in
+    let s = c.args.s.now in
+    let rest = drop (l.i + 1) s in (
+      omega arith,
+      l.invariant.1 ∙ ⊎_elim
+          (λ k. seen_other s l.i l.all (omega arith) (omega (arith, k.0)) ∙ ap (λ (b : Bool). seen b rest) (sym k.1))
+          (λ k. seen_one s l.i l.all (omega arith) (omega (arith, k.0)) ∙ ap (λ (b : Bool). seen b rest) (sym k.1))
+          c.if-s-i-gt127.branch,
+    )
+
+pub returns : goal.returns
+returns c =
+    let l = c.loop-i in
+    let s = c.args.s.now in
+    seen_end s l.i l.all (omega arith) ∙ sym l.invariant.1

@@ -1,0 +1,14 @@
+-- `strings::by_small` meets its contract. The invariant: to go on from here is to go from the start. Assumes nothing.
+use Prim.Native.Nat.{◌-◌}
+use native.Mathlib.Omega.{arith}
+use mathlib.Core.Path.{◌≡◌, refl, sym, ◌∙◌}
+use Rattle.text.specs.Unicode.{boundary}
+use Rattle.text.specs.Runs.{over, walked_to, walk_end}
+use Rattle.strings.specs.Steps.{small-not, small-on}
+use Rattle.strings.proofs.by_small.Given as goal
+
+abbrev pub invariant-loop-i : goal.invariant-loop-i
+invariant-loop-i l = walked_to 0 l.s l.at l.to ≡ over 0 l.s l.at l.to (boundary 0 l.s l.i l.to)
+
+abbrev pub decreases-loop-i : goal.decreases-loop-i
+decreases-loop-i l = l.to - l.i

@@ -1,0 +1,15 @@
+-- `strings::walked` meets its contract. The invariant: to go on from here is to go from the start. Assumes nothing.
+use Prim.Native.Nat.{◌-◌}
+use native.Mathlib.Omega.{arith}
+use mathlib.Core.Path.{◌≡◌, refl, sym, ◌∙◌}
+use lib.ListN.{drop, length-drop}
+use Rattle.text.specs.Unicode.{boundary}
+use Rattle.text.specs.Finder.{character-within}
+use Rattle.text.specs.Runs.{over, walked_to, walk-on, walk-not, walk_end}
+use Rattle.strings.proofs.walked.Given as goal
+
+abbrev pub invariant-loop-i : goal.invariant-loop-i
+invariant-loop-i l = walked_to l.u l.s l.at l.to ≡ over l.u l.s l.at l.to (boundary l.u l.s l.i l.to)
+
+abbrev pub decreases-loop-i : goal.decreases-loop-i
+decreases-loop-i l = l.to - l.i
