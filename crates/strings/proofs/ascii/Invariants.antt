@@ -1,11 +1,8 @@
 -- `strings::ascii` meets its contract. The invariant: what was seen so far, and what is still ahead, decide. Assumes nothing.
-use Prim.Native.Nat.{◌≤◌, ◌+◌, ◌-◌}
-use native.Mathlib.Omega.{arith}
-use mathlib.Core.Path.{◌≡◌, sym, ap, ◌∙◌}
-use mathlib.Core.Logic.{⊎_elim}
-use mathlib.Core.Bool.{Bool}
+use Prim.Native.Nat.{◌≤◌, ◌-◌}
+use mathlib.Core.Path.{◌≡◌}
 use lib.ListN.{length, drop}
-use Rattle.text.specs.Runs.{ascii, seen, seen_none, seen_one, seen_other, seen_end}
+use Rattle.text.specs.Runs.{ascii, seen}
 use Rattle.strings.proofs.ascii.Given as goal
 
 abbrev pub invariant-loop-i : goal.invariant-loop-i

@@ -1,10 +1,8 @@
 -- `strings::boundary` meets its contract. The invariant: to go on from here is to go from the start. Assumes nothing.
 use Prim.Native.Nat.{◌+◌, ◌-◌}
-use native.Mathlib.Omega.{arith}
-use mathlib.Core.Path.{◌≡◌, refl, sym, ◌∙◌}
+use mathlib.Core.Path.{◌≡◌}
 use lib.ListN.{drop}
 use Rattle.text.specs.Unicode.{reach, boundary}
-use Rattle.text.specs.Walk.{reach-on, reach-none, reach-over, reach-end}
 use Rattle.strings.proofs.boundary.Given as goal
 
 abbrev pub invariant-loop-e : goal.invariant-loop-e

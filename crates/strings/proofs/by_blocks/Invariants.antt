@@ -1,11 +1,8 @@
 -- `strings::by_blocks` meets its contract. The invariant: to look at what is left is to look at all. Assumes nothing.
 use Prim.Native.Nat.{◌≤◌, ◌-◌}
-use native.Mathlib.Omega.{arith}
-use mathlib.Core.Path.{◌≡◌, refl, sym, ◌∙◌}
+use mathlib.Core.Path.{◌≡◌}
 use lib.ListN.{length, drop}
 use Rattle.text.specs.Unicode.{well_formed}
-use Rattle.text.specs.Walk.{well-end}
-use Rattle.text.specs.Runs.{block-there, block_on, block-not}
 use Rattle.strings.proofs.by_blocks.Given as goal
 
 abbrev pub invariant-loop-i : goal.invariant-loop-i

@@ -1,10 +1,8 @@
 -- `strings::by_small` meets its contract. The invariant: to go on from here is to go from the start. Assumes nothing.
 use Prim.Native.Nat.{◌-◌}
-use native.Mathlib.Omega.{arith}
-use mathlib.Core.Path.{◌≡◌, refl, sym, ◌∙◌}
+use mathlib.Core.Path.{◌≡◌}
 use Rattle.text.specs.Unicode.{boundary}
-use Rattle.text.specs.Runs.{over, walked_to, walk_end}
-use Rattle.strings.specs.Steps.{small-not, small-on}
+use Rattle.text.specs.Runs.{over, walked_to}
 use Rattle.strings.proofs.by_small.Given as goal
 
 abbrev pub invariant-loop-i : goal.invariant-loop-i

@@ -4,9 +4,10 @@ use mathlib.Core.Path.{sym, ap, ◌∙◌}
 use Rattle.text.specs.Runs.{walked_to, block-end, block_within, ascii-walked}
 use Rattle.strings.proofs.passed.Goals as goal
 
--- UNKNOWN-Need-overflow-add-to
---     let a = c.args in
---     omega (arith, block_within a.s.now _ a.at c.cut-block.ensures)
+pub overflow_add-to : goal.overflow_add-to
+overflow_add-to c =
+    let a = c.args in
+    omega (arith, block_within a.s.now _ a.at c.cut-block.ensures)
 
 pub returns-then-ascii : goal.returns-then-ascii
 returns-then-ascii c =

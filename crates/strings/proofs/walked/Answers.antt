@@ -1,11 +1,9 @@
 -- `strings::walked` meets its contract. The invariant: to go on from here is to go from the start. Assumes nothing.
-use Prim.Native.Nat.{◌-◌}
 use native.Mathlib.Omega.{arith}
-use mathlib.Core.Path.{◌≡◌, refl, sym, ◌∙◌}
+use mathlib.Core.Path.{refl, sym, ◌∙◌}
 use lib.ListN.{drop, length-drop}
-use Rattle.text.specs.Unicode.{boundary}
 use Rattle.text.specs.Finder.{character-within}
-use Rattle.text.specs.Runs.{over, walked_to, walk-on, walk-not, walk_end}
+use Rattle.text.specs.Runs.{walked_to, walk-on, walk-not, walk_end}
 use Rattle.strings.proofs.walked.Goals as goal
 
 pub loop-i-init : goal.loop-i-init
@@ -18,10 +16,11 @@ returns-then-k-eq0 c =
     let l = c.loop-i in
     walk-not a.u a.s.now a.at a.to l.i _ c.character-k.ensures (omega arith) c.if-k-eq0.true ∙ sym l.invariant
 
--- UNKNOWN-Need-overflow-add-i
---     let a = c.args in
---     let l = c.loop-i in
---     omega (arith, character-within a.u (drop l.i a.s.now), length-drop l.i a.s.now)
+pub overflow_add-i : goal.overflow_add-i
+overflow_add-i c =
+    let a = c.args in
+    let l = c.loop-i in
+    omega (arith, character-within a.u (drop l.i a.s.now), length-drop l.i a.s.now)
 
 pub loop-i-preserved : goal.loop-i-preserved
 loop-i-preserved c =

@@ -1,11 +1,8 @@
 -- `strings::walked` meets its contract. The invariant: to go on from here is to go from the start. Assumes nothing.
 use Prim.Native.Nat.{◌-◌}
-use native.Mathlib.Omega.{arith}
-use mathlib.Core.Path.{◌≡◌, refl, sym, ◌∙◌}
-use lib.ListN.{drop, length-drop}
+use mathlib.Core.Path.{◌≡◌}
 use Rattle.text.specs.Unicode.{boundary}
-use Rattle.text.specs.Finder.{character-within}
-use Rattle.text.specs.Runs.{over, walked_to, walk-on, walk-not, walk_end}
+use Rattle.text.specs.Runs.{over, walked_to}
 use Rattle.strings.proofs.walked.Given as goal
 
 abbrev pub invariant-loop-i : goal.invariant-loop-i
