@@ -16,7 +16,7 @@ use Rattle.sample.specs.declared.Place.{Place}
 use Rattle.sample.specs.Place.{bare, closed}
 use Rattle.memory.specs.Table.{vacant, mine, is_time, is_at}
 use Rattle.memory.specs.Relay.{open_at, stands_at, placed, is_open}
-use Rattle.memory.specs.Counted.{is_open, is_none}
+use Rattle.memory.specs.Counted.{is_open_lem, is_none}
 
 -- ---- a number that is the running time: that is known, and is the number
 pub time-of : (t : Time) (u : ℕ) → is_time t u ≡ true → t ≡ Known u
@@ -139,7 +139,7 @@ module _ (d : ℕ) (t : Time) (p : Place) (l : List Place) (named : Named d t p)
 
   -- the place that the call is about is open after it where p is
   pub is-used : is_open d t p l ≡ p.used
-  is-used = either (stands_at d t p l) (length l) (λ h. is_open d t l p h) (λ h. is_none d t l p h ∙ sym (closed-free p (stands.past h)))
+  is-used = either (stands_at d t p l) (length l) (λ h. is_open_lem d t l p h) (λ h. is_none d t l p h ∙ sym (closed-free p (stands.past h)))
 
   gone : p.used ≡ false → count (is_at d t) l ≤ 1 → count (is_at d t) (placed d t p l) ≡ 0
   gone f once = go (open_at d t l).used refl (counted (is_at d t) (is_at-sees d t))

@@ -79,8 +79,8 @@ module _ (d : ℕ) (t : Time) (l : List Place) where
       (λ u. free-at (length l) (λ k. absurd (omega arith)) ∙ sym none))
 
   -- it is open where p is, unless there is none
-  pub is_open : (p : Place) → stands_at d t p l < length l → is_open d t p l ≡ p.used
-  is_open p h = ap (λ (y : Place). y.used) (get_or-set_same l (stands_at d t p l) p closed h)
+  pub is_open_lem : (p : Place) → stands_at d t p l < length l → is_open d t p l ≡ p.used
+  is_open_lem p h = ap (λ (y : Place). y.used) (get_or-set_same l (stands_at d t p l) p closed h)
 
   pub is_none : (p : Place) → length l ≤ stands_at d t p l → is_open d t p l ≡ false
   unfolding bare
@@ -93,5 +93,5 @@ module _ (d : ℕ) (t : Time) (l : List Place) where
   is-closed = go (stands_at d t closed l <? length l) refl
     where
       go : (b : Bool) → (stands_at d t closed l <? length l) ≡ b → is_open d t closed l ≡ false
-      go true e = is_open closed (lt_of _ _ e)
+      go true e = is_open_lem closed (lt_of _ _ e)
       go false e = is_none closed (ge-of _ _ e)

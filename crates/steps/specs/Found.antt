@@ -18,7 +18,7 @@ use Rattle.asks.specs.Settled.{open_in, laid}
 use Rattle.table.specs.Table.{holds}
 use Rattle.memory.specs.Table.{vacant, is_at}
 use Rattle.memory.specs.Relay.{stands_at, placed, was_open, is_open}
-use Rattle.memory.specs.Counted.{is_open, is_none}
+use Rattle.memory.specs.Counted.{is_open_lem, is_none}
 use Rattle.looks.specs.Looks.{reach_of, reach_at, spot_of}
 use Rattle.steps.specs.Kept.{before_at, kept_places, open_none}
 
@@ -99,7 +99,7 @@ module _ (desk : ℕ) (t : Time) (m : ℕ) (l : List Place) (fits : m ≤ length
         was = ap (λ (y : Place). y.used) (before-found h);
         is =
             ap (λ (y : Place). y.used) (get_or-set_same l at _ closed (omega arith) ∙ sym q)
-            ∙ sym (is_open desk t (take m l) p (omega (arith, i, long)));
+            ∙ sym (is_open_lem desk t (take m l) p (omega (arith, i, long)));
       }
 
   before-low : low < m → (before_at low l).used ≡ false
@@ -128,7 +128,7 @@ module _ (desk : ℕ) (t : Time) (m : ℕ) (l : List Place) (fits : m ≤ length
 
       open-in : (b : Bool) → stands_at desk t p (take m l) ≡ (b ⇒ low ⁏ m)
           → (b ⇒ p ⁏ before_at low l).used ≡ is_open desk t p (take m l)
-      open-in true q = sym (is_open desk t (take m l) p (omega (arith, q, long)))
+      open-in true q = sym (is_open_lem desk t (take m l) p (omega (arith, q, long)))
       open-in false q = before-low k ∙ sym (is_none desk t (take m l) p (omega (arith, q, long)))
 
   -- where it is kept in none, it is not to be kept, or there is none
