@@ -42,6 +42,7 @@ fn put_count(out: &mut [u8], at: usize, word: &[u8], n: usize) -> usize
     put_number(out, next, n)
 }
 
+#[tactic(auto, unfolding(crate::specs::Line::outcome_text))]
 fn put_outcome(out: &mut [u8], at: usize, outcome: Outcome) -> usize
     ensures { page out.new result ≡ typed out.old at (outcome_text outcome) }
 {
@@ -57,6 +58,7 @@ fn put_outcome(out: &mut [u8], at: usize, outcome: Outcome) -> usize
     }
 }
 
+#[tactic(auto, unfolding(crate::specs::Line::time_text))]
 fn put_time(out: &mut [u8], at: usize, t: Time) -> usize
     ensures { page out.new result ≡ typed out.old at (word_time ++ time_text t) }
 {
