@@ -1,6 +1,6 @@
 -- 'Box again': a box that is put down is found as what it is, whatever stands before it and follows it, and boxes put down one after
 -- the other are walked as that list. Assumes nothing.
-use Rattle.std.specs.Prelude.{ℕ, zero, suc, ◌+◌, ◌-◌, ◌*◌, ◌/◌, ◌%◌, ◌<◌, ◌≤◌, ◌≡◌, refl, List, [], ◌∷◌, ◌++◌, take, drop}
+use Rattle.std.specs.Prelude.{ℕ, zero, suc, ◌+◌, ◌-◌, ◌*◌, ◌/◌, ◌%◌, ◌<◌, ◌≤◌, ◌≡◌, refl, List, [], ◌∷◌, ◌++◌, take}
 use native.Mathlib.Omega.{arith}
 use Rattle.std.proofs.Math.Path.{sym}
 use Rattle.std.proofs.Common.{ap, ◌∙◌, append_assoc, length-append, get_or-append-add, take_at}
@@ -13,7 +13,7 @@ use Rattle.boxes.specs.declared.Found.{Found}
 use Rattle.boxes.specs.declared.Found.TheVariants.{End, Box}
 use Rattle.boxes.specs.declared.Stepped.{Stepped}
 use Rattle.boxes.specs.Step.{header_size, size_at, type_at, finds, step_of, contents_of, box-is, contents-is, Says, step-says}
-use Rattle.boxes.specs.Walk.{Shown, shown, Walk, onward, walk_of, walk}
+use Rattle.boxes.specs.Walk.{Shown, Walk, onward, walk_of, walk}
 
 -- ---- a box by its type and contents: the size, which counts the header too, the type, the contents
 abbrev pub box_head : (type : ℕ) → (contents : List ℕ) → List ℕ
