@@ -1,6 +1,6 @@
 -- One call's work for one desk where its sample stands in a table: what the call finds there, and what it leaves. Assumes nothing.
 use Rattle.std.specs.Prelude.{ℕ, Bool, List}
-use Rattle.std.specs.Borrow.{Bor}
+use Rattle.std.specs.Borrow.{MutBor}
 use denote.Triple.Both.{Both}
 use Rattle.laws.specs.Rows.{◌⇒◌⁏◌}
 use Rattle.paper.specs.declared.Refusal.TheVariants as R
@@ -24,7 +24,7 @@ use Rattle.asks.specs.declared.Bar.TheVariants as B
 
 -- ---- a place whose numbers go by value and whose arrays are lent: before the call, and after it
 abbrev Array : Type 0
-Array = Both (Bor (List ℕ)) (Bor (List ℕ))
+Array = Both (MutBor (List ℕ)) (MutBor (List ℕ))
 
 abbrev pub before : Head → (kinds starts lens bytes : Array) → Place
 before h kinds starts lens bytes = whole h kinds.entry.now starts.entry.now lens.entry.now bytes.entry.now
