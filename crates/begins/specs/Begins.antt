@@ -3,7 +3,7 @@ use Rattle.std.specs.Prelude.{ℕ, ◌<◌, ◌≡◌, Bool, List, length, repli
 use Rattle.std.proofs.Math.Path.{refl, ap}
 use Rattle.std.proofs.Common.{sym, ◌∙◌, true≢false}
 use Rattle.std.proofs.Math.Bool.{true, false}
-use Rattle.laws.specs.Rows.{◌⇒◌⁏◌, yes, lt, no}
+use Rattle.laws.specs.Rows.{◌⇒◌⁏◌, yes, lt}
 use Rattle.paper.specs.Limits.{sample_most, parts_most}
 use Rattle.paper.specs.declared.Refusal.{Refusal}
 use Rattle.paper.specs.declared.Refusal.TheVariants as R
