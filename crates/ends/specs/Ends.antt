@@ -9,7 +9,7 @@ use Rattle.paper.specs.declared.Outcome.TheVariants as O
 use Rattle.sample.specs.declared.Head.{Head}
 use Rattle.sample.specs.declared.Place.{Place}
 use Rattle.sample.specs.Head.{head_of, whole}
-use Rattle.sample.specs.Place.{bare, closed, kept, missing, pieces_of}
+use Rattle.sample.specs.Place.{bare, closed, missing, pieces_of}
 use Rattle.desk.specs.Desk.{Own, answering, left, completed, Turn, in_use, facts, freed, given_up}
 use Rattle.std.proofs.lemmas.List.Edits.{sets}
 use Rattle.joining.specs.Joining.{together, string_of, sound}
