@@ -1,11 +1,6 @@
 -- What counting uses of lists and tests. Nothing of the program logic. Assumes nothing.
-use Prim.Native.Nat.{ℕ, suc, ◌+◌, ◌≤◌, min}
-use native.Mathlib.Omega.{arith}
-use mathlib.Core.Path.{◌≡◌, refl, sym, ap, ◌∙◌}
-use mathlib.Core.Bool.{Bool, true, false, cond}
-use mathlib.Core.List.{List, [], ◌∷◌}
-use lib.ListN.{length, take}
-use lib.Seq.{length-take-le}
+use Rattle.std.proofs.Common.{ℕ, suc, ◌+◌, ◌≤◌, min, arith, ◌≡◌, refl, sym, ap, ◌∙◌, Bool, true, false, cond, List, [], ◌∷◌, length, take}
+use Rattle.std.proofs.Math.Seq.{length-take-le}
 use Rattle.laws.specs.Rows.{◌⇒◌⁏◌, ◌<?◌, ◌=?◌, ge, eq_of}
 use Rattle.laws.specs.Table.{bit, seek, count}
 use Rattle.laws.specs.Region.{take_min}
@@ -19,6 +14,10 @@ use Rattle.table.proofs.Facts.{fails}
 -- a count is no more than the places that were passed
 pub counted-small : {A : Type 0} (p : A → Bool) (ys : List A) (i c : ℕ) → i ≤ length ys → c ≡ count p (take i ys) → c ≤ i
 counted-small p ys i c l e = rw e (omega (arith, count-le p (take i ys), length-take-le i ys l))
+
+pub bit-small : (b : Bool) (r : ℕ) → r ≡ bit b → r ≤ 1
+bit-small true r e = omega arith
+bit-small false r e = omega arith
 
 -- ---- a search is spared where none counts
 -- where no element is q, and each that is p is q, none is p

@@ -1,11 +1,6 @@
 -- What closing uses of lists and tests. Nothing of the program logic. Assumes nothing.
-use Prim.Native.Nat.{ℕ, ◌+◌, ◌<◌, ◌≤◌}
-use native.Mathlib.Omega.{arith}
-use mathlib.Core.Path.{◌≡◌, refl, sym}
-use mathlib.Core.Bool.{Bool, true, false}
-use mathlib.Core.List.{List}
-use mathlib.Core.Logic.{◌⊎◌, inl, inr}
-use lib.ListN.{set}
+use Rattle.std.proofs.Common.{ℕ, ◌+◌, ◌<◌, ◌≤◌, arith, ◌≡◌, refl, sym, Bool, true, false, List, ◌⊎◌, inl, inr}
+use Rattle.std.proofs.Math.ListN.{set}
 use Rattle.laws.specs.Rows.{◌⇒◌⁏◌, ◌and◌, ◌<?◌, yes, lt, lt_of, ge-of, and-of}
 use Rattle.laws.specs.Region.{Filling, fill-next}
 use Rattle.sample.specs.declared.Place.{Place}

@@ -1,3 +1,1 @@
 pub mod Facts
-pub mod Least
-pub mod Held
