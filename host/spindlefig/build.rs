@@ -24,7 +24,7 @@ fn main() {
     println!("cargo:rerun-if-changed={}", archive.display());
     if !archive.is_file() {
         panic!(
-            "{} is not there: run `rt staticlib export` in the repository first",
+            "{} is not there: run host/build in the repository first",
             archive.display()
         );
     }

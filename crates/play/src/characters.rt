@@ -1,26 +1,30 @@
 // Characters: what the finder, the well-formedness test and the boundary say of a string. The stored output is what a decoder that is
 // not ours says of the same bytes.
 use crate::{print, script};
+use std::io;
+use std::io::Print;
 
 const STRING_MOST: usize = 20;
 
 // Of a string in the encoding u: the length of the character at a place, whether it is well-formed, and its boundary within a limit.
-fn show(u: usize, s: &[u8], at: usize, limit: usize) {
-    print::number(finder::character(u, s, at));
-    print::answer(strings::well_formed(u, s));
-    print::number(strings::boundary(u, s, at, limit));
+fn show(rt: &impl Print, u: usize, s: &[u8], at: usize, limit: usize) -> io::Result<()> {
+    print::number(rt, finder::character(u, s, at))?;
+    print::answer(rt, strings::well_formed(u, s))?;
+    print::number(rt, strings::boundary(u, s, at, limit))
 }
 
 // `text U AT LIMIT BYTES`.
-pub(crate) fn play(call: usize, line: &[u8]) {
+pub(crate) fn play(rt: &impl Print, call: usize, line: &[u8]) -> io::Result<()> {
     if call == script::TEXT {
         let mut s = [0u8; STRING_MOST];
         let n = script::bytes(line, 4, &mut s);
         show(
+            rt,
             script::number(line, 1),
             octets::cut(&s, 0, n),
             script::number(line, 2),
             script::number(line, 3),
-        );
+        )?;
     }
+    Ok(())
 }

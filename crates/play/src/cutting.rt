@@ -1,5 +1,7 @@
 // The writer: payloads of samples of both encodings around each edge, and descriptions. Strings and modifiers repeat thirty bytes.
 use crate::{print, script};
+use std::io;
+use std::io::Print;
 use writer::Written;
 
 const LETTERS: [u8; 30] = *b"abcdefghijklmnopqrstuvwxyzabcd";
@@ -22,18 +24,26 @@ fn fill(s: &mut [u8], thirty: &[u8; 30]) {
 }
 
 // The payload's length, how many there are, and its bytes; or the refusal.
-fn tell(w: Written, out: &[u8]) {
+fn tell(rt: &impl Print, w: Written, out: &[u8]) -> io::Result<()> {
     match w {
-        Written::Refused(r) => print::refused(r),
+        Written::Refused(r) => print::refused(rt, r),
         Written::Payload { len, count } => {
-            print::numbers(&[len, count]);
-            print::laid(out, len);
+            print::numbers(rt, &[len, count])?;
+            print::laid(rt, out, len)
         }
     }
 }
 
 // n bytes of `thirty` again and again as the string, `more` bytes of modifiers, payload k for the size limit m.
-fn case(u: usize, thirty: &[u8; 30], n: usize, more: usize, m: usize, k: usize) {
+fn case(
+    rt: &impl Print,
+    u: usize,
+    thirty: &[u8; 30],
+    n: usize,
+    more: usize,
+    m: usize,
+    k: usize,
+) -> io::Result<()> {
     let mut string = [0u8; 1100];
     fill(&mut string, thirty);
     let mut modifiers = [0u8; 1100];
@@ -49,29 +59,39 @@ fn case(u: usize, thirty: &[u8; 30], n: usize, more: usize, m: usize, k: usize) 
         k,
         &mut out,
     );
-    tell(w, &out);
+    tell(rt, w, &out)
 }
 
 // Eight letters that just fit the size limit.
-fn fields(sidx: usize, sdur: usize, out: &mut [u8]) {
+fn fields(rt: &impl Print, sidx: usize, sdur: usize, out: &mut [u8]) -> io::Result<()> {
     let w = writes::write_sample(0, sidx, sdur, b"abcdefgh", b"", 17, 1, out);
-    tell(w, out);
+    tell(rt, w, out)
 }
 
 // `enough SIDX SDUR`: with an output of the size limit.
-fn enough(line: &[u8]) {
+fn enough(rt: &impl Print, line: &[u8]) -> io::Result<()> {
     let mut out = [0xaau8; 17];
-    fields(script::number(line, 1), script::number(line, 2), &mut out);
+    fields(
+        rt,
+        script::number(line, 1),
+        script::number(line, 2),
+        &mut out,
+    )
 }
 
 // `short SIDX SDUR`: with one byte less.
-fn short(line: &[u8]) {
+fn short(rt: &impl Print, line: &[u8]) -> io::Result<()> {
     let mut out = [0xaau8; 16];
-    fields(script::number(line, 1), script::number(line, 2), &mut out);
+    fields(
+        rt,
+        script::number(line, 1),
+        script::number(line, 2),
+        &mut out,
+    )
 }
 
 // `description SIDX N M K`.
-fn description(line: &[u8]) {
+fn description(rt: &impl Print, line: &[u8]) -> io::Result<()> {
     let mut d = [0u8; 300];
     fill(&mut d, &MODIFIERS);
     let mut out = [0xaau8; 1400];
@@ -80,11 +100,11 @@ fn description(line: &[u8]) {
     let m = script::number(line, 3);
     let k = script::number(line, 4);
     let w = describes::write_description(sidx, octets::cut(&d, 0, n), m, k, &mut out);
-    tell(w, &out);
+    tell(rt, w, &out)
 }
 
 // `sample U STRING N MORE M K`, with the bytes that the string repeats by name.
-fn sample(line: &[u8]) {
+fn sample(rt: &impl Print, line: &[u8]) -> io::Result<()> {
     let name = script::word(line, 2);
     let mut thirty = LETTERS;
     if octets::same(name, b"mixed") {
@@ -94,22 +114,23 @@ fn sample(line: &[u8]) {
         thirty = WIDE;
     }
     case(
+        rt,
         script::number(line, 1),
         &thirty,
         script::number(line, 3),
         script::number(line, 4),
         script::number(line, 5),
         script::number(line, 6),
-    );
+    )
 }
 
 // A line that is a call of the writer.
-pub(crate) fn play(call: usize, line: &[u8]) {
+pub(crate) fn play(rt: &impl Print, call: usize, line: &[u8]) -> io::Result<()> {
     match call {
-        script::SAMPLE => sample(line),
-        script::ENOUGH => enough(line),
-        script::SHORT => short(line),
-        script::DESCRIPTION => description(line),
-        _ => {}
+        script::SAMPLE => sample(rt, line),
+        script::ENOUGH => enough(rt, line),
+        script::SHORT => short(rt, line),
+        script::DESCRIPTION => description(rt, line),
+        _ => Ok(()),
     }
 }

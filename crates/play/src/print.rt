@@ -1,59 +1,61 @@
 // Numbers and bytes on standard output, a blank before each.
-use libc::STDOUT_FILENO;
 use paper::Refusal;
+use std::io;
+use std::io::Print;
 
-pub(crate) fn text(s: &[u8]) {
-    io::write_all(STDOUT_FILENO, s);
+pub(crate) fn text(rt: &impl Print, s: &[u8]) -> io::Result<()> {
+    rt.write_all(s)
 }
 
-pub(crate) fn blank() {
-    text(b" ");
+pub(crate) fn blank(rt: &impl Print) -> io::Result<()> {
+    text(rt, b" ")
 }
 
-pub(crate) fn end_line() {
-    text(b"\n");
+pub(crate) fn end_line(rt: &impl Print) -> io::Result<()> {
+    text(rt, b"\n")
 }
 
-pub(crate) fn number(n: usize) {
-    blank();
-    io::print_decimal(STDOUT_FILENO, n as u64);
+pub(crate) fn number(rt: &impl Print, n: usize) -> io::Result<()> {
+    print!(rt; " {n}")
 }
 
-pub(crate) fn numbers(s: &[usize]) {
+pub(crate) fn numbers(rt: &impl Print, s: &[usize]) -> io::Result<()> {
     let mut i = 0;
     while i < s.len() {
-        number(s[i]);
+        number(rt, s[i])?;
         i += 1;
     }
+    Ok(())
 }
 
-pub(crate) fn refused(r: Refusal) {
-    text(b" refused");
-    number(paper::number(r));
+pub(crate) fn refused(rt: &impl Print, r: Refusal) -> io::Result<()> {
+    text(rt, b" refused")?;
+    number(rt, paper::number(r))
 }
 
 // A yes or a no.
-pub(crate) fn answer(yes: bool) {
+pub(crate) fn answer(rt: &impl Print, yes: bool) -> io::Result<()> {
     if yes {
-        text(b" yes");
+        text(rt, b" yes")
     } else {
-        text(b" no");
+        text(rt, b" no")
     }
 }
 
 // Bytes in hexadecimal behind a colon.
-pub(crate) fn bytes(s: &[u8]) {
-    text(b" :");
+pub(crate) fn bytes(rt: &impl Print, s: &[u8]) -> io::Result<()> {
+    text(rt, b" :")?;
     let mut i = 0;
     while i < s.len() {
-        blank();
-        io::print_hex(STDOUT_FILENO, octets::byte(s, i) as u64, 2);
+        let byte = octets::byte(s, i);
+        print!(rt; " {byte:02x}")?;
         i += 1;
     }
+    Ok(())
 }
 
 // What was laid into an output: its first sixteen bytes, and its last four with the two behind them.
-pub(crate) fn laid(out: &[u8], n: usize) {
-    bytes(octets::cut(out, 0, octets::least(n, 16)));
-    bytes(octets::cut(out, octets::less(n, 4), 6));
+pub(crate) fn laid(rt: &impl Print, out: &[u8], n: usize) -> io::Result<()> {
+    bytes(rt, octets::cut(out, 0, octets::least(n, 16)))?;
+    bytes(rt, octets::cut(out, octets::less(n, 4), 6))
 }
