@@ -1,7 +1,7 @@
 -- The order for a part of an open sample, one law for each answer, in the code's own values. Assumes nothing.
 use Rattle.std.specs.Prelude.{ℕ, ◌≡◌, refl, Bool, true, false, List, length}
 use Rattle.std.proofs.Common.{sym, ◌∙◌}
-use Rattle.laws.specs.Rows.{yes, each, no}
+use Rattle.laws.specs.Rows.{yes, no}
 use Rattle.paper.specs.declared.Refusal.TheVariants as R
 use Rattle.paper.specs.declared.Time.{Time}
 use Rattle.paper.specs.declared.Outcome.TheVariants as O
@@ -10,7 +10,6 @@ use Rattle.sample.specs.declared.Place.{Place}
 use Rattle.sample.specs.Place.{repeats, oversize, kept}
 use Rattle.desk.specs.declared.Shares.{Shares}
 use Rattle.desk.specs.Desk.{Own, After, answering, left, is_late, conflicts, six, used_up, completed, joining, Turn}
-use Rattle.asks.specs.Settled.{passed}
 use Rattle.unit.specs.declared.Part as P
 
 -- ---- an open sample asks for no share
