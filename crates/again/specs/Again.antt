@@ -6,16 +6,17 @@ use Rattle.std.proofs.Common.{arith, sym, ap, ◌∙◌, ext_get_or}
 use Rattle.laws.specs.Lists.{enumerated, length-enumerated, get_or-enumerated}
 use Rattle.laws.specs.Rows.{each, eq, eq_of, ne_of, and_is}
 use Rattle.joining.specs.Joining.{Piece, piece, together, string_of, sound}
-use Rattle.text.specs.Strings.{well-formed}
+use Rattle.text.proofs.Strings.{well-formed}
 use Rattle.unit.specs.declared.Part as P
 use Rattle.unit.specs.declared.Unit.{Unit}
 use Rattle.unit.specs.declared.Unit.TheVariants.{End, Skipped, Refused, Whole, Part, Description}
 use Rattle.unit.specs.declared.Reading.{Reading}
 use Rattle.unit.specs.Layout.{string_part, modifiers_part, read_of, data_of}
 use Rattle.writer.specs.Write.{Caption, sample, long, parts, count, part_unit, whole_unit, payload, uncut}
-use Rattle.writer.specs.Returns.{Writable, cut-count, cut-unit, cut-data, whole-unit, whole-data}
-use Rattle.writer.specs.Cutting.{parts-together, parts-string, parts-ordered}
-use Rattle.writer.specs.Payloads.{cut-allowed, total, payload-read, payload-data}
+use Rattle.writer.specs.Returns.{Writable}
+use Rattle.writer.proofs.Returns.{cut-count, cut-unit, cut-data, whole-unit, whole-data}
+use Rattle.writer.proofs.Cutting.{parts-together, parts-string, parts-ordered}
+use Rattle.writer.proofs.Payloads.{cut-allowed, total, payload-read, payload-data}
 
 -- ---- what joining sees of a unit: a part's TYPE and data
 abbrev pub piece_of : List ℕ → Unit → Piece

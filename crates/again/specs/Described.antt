@@ -4,12 +4,14 @@ use Rattle.std.proofs.Common.{arith}
 use Rattle.laws.specs.Exactly.{Exactly}
 use Rattle.paper.specs.Limits.{record_size, window}
 use Rattle.paper.specs.declared.Outcome.TheVariants as O
-use Rattle.text.specs.Strings.{empty-well}
+use Rattle.text.proofs.Strings.{empty-well}
 use Rattle.unit.specs.Layout.{description, reading, read_of, data_of}
-use Rattle.unit.specs.Again.{Proper, description-unit, unit-again, data-again}
+use Rattle.unit.specs.Again.{Proper, description-unit}
+use Rattle.unit.proofs.Again.{unit-again, data-again}
 use Rattle.writer.specs.declared.Written.TheVariants.{Payload}
 use Rattle.writer.specs.Write.{described}
-use Rattle.writer.specs.Answers.{DescriptionWritten, described-written}
+use Rattle.writer.specs.Answers.{DescriptionWritten}
+use Rattle.writer.proofs.Answers.{described-written}
 use Rattle.style.specs.Store.{held, noted}
 use Rattle.style.specs.Shown.{shown}
 use Rattle.style.specs.Window.{described-unless, stored-shown}

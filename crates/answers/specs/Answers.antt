@@ -18,14 +18,3 @@ answer_row a = a.used ∷ time_row a.next ++ kind_of a.outcome ∷ values_of a.o
 -- the numbers that hold the row of any answer
 abbrev pub row_most : ℕ
 row_most = 10
-
--- its pieces one behind the other
-pub answer-rows : (a : Answer) (row : List ℕ)
-    → sets (set (sets (set row 0 a.used) 1 (time_row a.next)) 3 (kind_of a.outcome)) 4 (values_of a.outcome)
-    ≡ sets row 0 (answer_row a)
-answer-rows a row = go a.next
-  where
-    go : (t : Time) → sets (set (sets (set row 0 a.used) 1 (time_row t)) 3 (kind_of a.outcome)) 4 (values_of a.outcome)
-        ≡ sets row 0 (a.used ∷ time_row t ++ kind_of a.outcome ∷ values_of a.outcome)
-    go (Known time) = refl
-    go Unknown = refl

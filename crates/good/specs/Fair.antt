@@ -14,7 +14,7 @@ use Rattle.sample.specs.Place.{bare, closed}
 use Rattle.memory.specs.Table.{vacant, mine, is_time, is_at}
 use Rattle.desk.specs.declared.Shares.{Shares}
 use Rattle.memory.specs.Relay.{open_at, common_use, shares_of}
-use Rattle.memory.specs.Back.{open_unknown}
+use Rattle.memory.proofs.Back.{open_unknown}
 use Rattle.good.specs.Places.{time-of, closed-free, open_none, Moved}
 
 -- a sample is open once at most; a desk has six open at most, and only desks below n have any; the common use is at most the common places

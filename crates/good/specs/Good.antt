@@ -30,7 +30,7 @@ use Rattle.memory.specs.Relay.{Tables, desks_of, places_of, open_at, own_of, sha
 use Rattle.memory.specs.Relay.{stands_at, placed, put_back, improper, stranger, short, lacks_three, lacking}
 use Rattle.memory.specs.Relay.{Prepared, prepared, own_marks, fresh_marks, fresh_tables, set_up, ordered, yielded}
 use Rattle.memory.specs.Relay.{received_among, sender, received_at, given_up_among, given_up_at}
-use Rattle.memory.specs.Back.{put_same}
+use Rattle.memory.proofs.Back.{put_same}
 use Rattle.good.specs.Cells.{Cells, behind, front, cells-behind, length_front, cells-front}
 use Rattle.good.specs.Places.{open-named, is-used, Moved, moved}
 use Rattle.good.specs.Fair.{Fair, Passed, room, none-mine, none-common, fair-closed, fair-moved}

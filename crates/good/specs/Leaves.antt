@@ -9,15 +9,17 @@ use Rattle.laws.specs.Rows.{◌<?◌, each, no, eq, lt_of, ge-of, ne_of, or-none
 use Rattle.paper.specs.Limits.{own_places, common}
 use Rattle.paper.specs.declared.Time.{Time}
 use Rattle.paper.specs.declared.Time.TheVariants.{Known}
-use Rattle.finished.specs.Marks.{length-kept}
+use Rattle.finished.proofs.Marks.{length-kept}
 use Rattle.text.specs.Unicode.{WellFormed}
 use Rattle.unit.specs.declared.Whole as W
 use Rattle.unit.specs.declared.Part as P
 use Rattle.unit.specs.declared.Unit.{Unit}
 use Rattle.unit.specs.declared.Unit.TheVariants.{End, Skipped, Refused, Whole, Part, Description}
 use Rattle.unit.specs.Layout.{read_of, data_of}
-use Rattle.unit.specs.Text.{WellText, string-text}
-use Rattle.unit.specs.Reads.{Counts, Counted, reads-counted, read-well}
+use Rattle.unit.specs.Text.{WellText}
+use Rattle.unit.proofs.Text.{string-text}
+use Rattle.unit.specs.Reads.{Counts, Counted}
+use Rattle.unit.proofs.Readings.{reads-counted, read-well}
 use Rattle.sample.specs.declared.Place.{Place}
 use Rattle.sample.specs.Place.{bare, closed, has, agrees, oversize, kept}
 use Rattle.sample.specs.Kept.{Fresh}
@@ -30,7 +32,7 @@ use Rattle.style.specs.Slots.{stored-length}
 use Rattle.desk.specs.declared.Shares.{Shares}
 use Rattle.desk.specs.Desk.{Own, After, Given, in_use, finish, whole_taken, sample_of, conflicts, six, used_up, completed, joining}
 use Rattle.desk.specs.Desk.{description_taken, taken, received, given_up}
-use Rattle.desk.specs.Effects.{at-times}
+use Rattle.desk.proofs.Effects.{at-times}
 use Rattle.memory.specs.Table.{is_time}
 use Rattle.memory.specs.Relay.{ordered, yielded}
 use Rattle.good.specs.Places.{Named, closed-free, closed-named}

@@ -20,16 +20,17 @@ use Rattle.paper.specs.declared.Time.TheVariants.{Known}
 use Rattle.unit.specs.declared.Unit.TheVariants as U
 use Rattle.unit.specs.declared.Reading.{Reading}
 use Rattle.unit.specs.Layout.{reading, read_of}
-use Rattle.unit.specs.Reads.{seventeen-uses}
+use Rattle.unit.proofs.Readings.{seventeen-uses}
 use Rattle.sample.specs.Place.{closed}
 use Rattle.desk.specs.declared.Shares.{Shares}
 use Rattle.desk.specs.declared.GivenUp.TheVariants as G
 use Rattle.desk.specs.Desk.{Own, After, Given, says, finish, taken, received, given_up}
-use Rattle.desk.specs.Effects.{Effect, stays, effects, reader-refuses, refusal_number, seventeen-read, progress}
+use Rattle.desk.specs.Effects.{Effect, refusal_number}
+use Rattle.desk.proofs.Effects.{stays, effects, reader-refuses, seventeen-read, progress}
 use Rattle.memory.specs.Relay.{Tables, desks_of, own_of, stored_shares, put_back, improper, stranger, ordered}
 use Rattle.memory.specs.Relay.{Done, done, settled, shut_out}
 use Rattle.memory.specs.Relay.{received_among, received_at, yielded, released, returned, given_up_among, given_up_at, looked_up_among, looked_up}
-use Rattle.memory.specs.Back.{put_same}
+use Rattle.memory.proofs.Back.{put_same}
 
 -- ---- the effect of a refusal
 ordered-effect : (one : Bool) (h : Shares) (s : Own) (desk : ℕ) (t : Time) (rest : List ℕ) → Effect s t (ordered one h s desk t rest)

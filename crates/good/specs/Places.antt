@@ -16,7 +16,7 @@ use Rattle.sample.specs.declared.Place.{Place}
 use Rattle.sample.specs.Place.{bare, closed}
 use Rattle.memory.specs.Table.{vacant, mine, is_time, is_at}
 use Rattle.memory.specs.Relay.{open_at, stands_at, placed, is_open}
-use Rattle.memory.specs.Counted.{is_open_lem, is_none}
+use Rattle.memory.proofs.Counted.{is_open_lem, is_none}
 
 -- ---- a number that is the running time: that is known, and is the number
 pub time-of : (t : Time) (u : ℕ) → is_time t u ≡ true → t ≡ Known u

@@ -19,13 +19,15 @@ use Rattle.unit.specs.declared.Part as P
 use Rattle.unit.specs.declared.Unit.{Unit}
 use Rattle.unit.specs.declared.Unit.TheVariants.{End, Skipped, Refused, Whole, Part, Description}
 use Rattle.unit.specs.Layout.{read_of, data_of}
-use Rattle.unit.specs.Reads.{ByReader, other-number, read-by-reader}
+use Rattle.unit.specs.Reads.{ByReader}
+use Rattle.unit.proofs.Readings.{other-number, read-by-reader}
 use Rattle.sample.specs.declared.Place.{Place}
 use Rattle.style.specs.Store.{noted}
 use Rattle.style.specs.Store as S
 use Rattle.desk.specs.declared.Shares.{Shares}
 use Rattle.desk.specs.Desk.{Own, After, whole_taken, six, used_up, completed, joining, description_taken, taken, received}
-use Rattle.desk.specs.Effects.{at-times, asks_part, asks}
+use Rattle.desk.specs.Effects.{asks_part, asks}
+use Rattle.desk.proofs.Effects.{at-times}
 use Rattle.memory.specs.Table.{mine}
 use Rattle.memory.specs.Relay.{Tables, desks_of, places_of, own_of, opens_of, stored_shares, stranger, lacking, ordered}
 use Rattle.memory.specs.Relay.{received_among, received_at}

@@ -24,7 +24,7 @@ use Rattle.memory.specs.Table.{mine, is_time}
 use Rattle.memory.specs.Relay.{Tables, places_of, row_of, marks_of, store_of, open_at, own_of, shares_of, stored_shares, placed, put_back, short}
 use Rattle.memory.specs.Relay.{Prepared, fresh_marks, set_up, ordered, Done, settled, received_among, received_at, yielded, Released, returned}
 use Rattle.memory.specs.Relay.{given_up_among, given_up_at, looked_up_among, looked_up, sender}
-use Rattle.memory.specs.Back.{open_unknown}
+use Rattle.memory.proofs.Back.{open_unknown}
 use Rattle.good.specs.Places.{time-of, Moved}
 use Rattle.good.specs.Fair.{once-at}
 use Rattle.good.specs.Good.{name, Good, shares-are, no-stranger, no-lack, no-lack-three, fresh-length, Left, Fits, fits}

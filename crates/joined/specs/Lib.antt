@@ -1,5 +1,4 @@
 pub mod Ledger
 pub mod Tallies
-pub mod Right
 pub mod Joined
 pub mod Strings

@@ -5,7 +5,7 @@ use Rattle.std.proofs.Common.{arith, sym, ap, ◌∙◌, length-take}
 use mathlib.Core.List.{List, [], ◌∷◌, ◌++◌, flatten}
 use Rattle.laws.specs.Rows.{◌=?◌, each, yes, no, eq, ne, eq_of, ne_of, and-of}
 use Rattle.text.specs.Unicode.{WellFormed}
-use Rattle.text.specs.Strings.{empty-well, join-well}
+use Rattle.text.proofs.Strings.{empty-well, join-well}
 use Rattle.joining.specs.Joining.{Piece, kinds, together, string_of, laters, going, ordered}
 
 -- each TYPE 2 part is well-formed in U

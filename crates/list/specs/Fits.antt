@@ -12,7 +12,7 @@ use Rattle.paper.specs.declared.Time.TheVariants.{Known, Unknown}
 use Rattle.paper.specs.declared.Outcome.{Outcome}
 use Rattle.paper.specs.declared.Outcome.TheVariants as O
 use Rattle.paper.specs.declared.Answer.{Answer}
-use Rattle.unit.specs.Reads.{reads-uses}
+use Rattle.unit.proofs.Readings.{reads-uses}
 use Rattle.memory.specs.Relay.{Tables, Done, places_of, own_of, shares_of, sender}
 use Rattle.good.specs.Good.{Good, receive-good}
 use Rattle.lines.specs.Digits.{length_digits}

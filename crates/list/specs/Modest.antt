@@ -14,7 +14,7 @@ use Rattle.unit.specs.declared.Unit.{Unit}
 use Rattle.unit.specs.declared.Unit.TheVariants.{End, Skipped, Refused, Whole, Part, Description}
 use Rattle.unit.specs.declared.Reading.{Reading}
 use Rattle.unit.specs.Layout.{fields_of, broken, read_of, data_of}
-use Rattle.unit.specs.Reads.{each-unit}
+use Rattle.unit.proofs.Readings.{each-unit}
 use Rattle.sample.specs.declared.Place.{Place}
 use Rattle.sample.specs.Place.{bare, agrees, oversize, missing, told_with, telling, laid, kept, pieces_of}
 use Rattle.sample.specs.Sound.{sound-of}

@@ -11,7 +11,7 @@ use Rattle.paper.specs.declared.Time.TheVariants.{Known}
 use Rattle.sample.specs.declared.Place.{Place}
 use Rattle.sample.specs.Place.{closed}
 use Rattle.desk.specs.Desk.{Own, received}
-use Rattle.desk.specs.Effects.{progress}
+use Rattle.desk.proofs.Effects.{progress}
 use Rattle.memory.specs.declared.Started.TheVariants.{Ready}
 use Rattle.memory.specs.Relay.{Tables, Prepared, Done, tables, places_of, own_of, shares_of, improper, short, lacking, set_up, settled}
 use Rattle.memory.specs.Relay.{ordered, received_at, sender}

@@ -1,5 +1,3 @@
 pub mod Table
 pub mod Relay
-pub mod Counted
-pub mod Back
 pub mod Lent

@@ -25,7 +25,7 @@ use Rattle.good.specs.Cells.{length_front}
 use Rattle.good.specs.Good.{Good}
 use Rattle.good.specs.View.{View, view, own_in, receives, receive-is, receive-own, lookup-is}
 use Rattle.peace.specs.Run.{receive, lookup, Got, answered, released, shown, got, next}
-use Rattle.peace.specs.Alone.{next-good}
+use Rattle.peace.proofs.Alone.{next-good}
 
 -- described, or a repeat
 abbrev pub Noted : Outcome → Type 0

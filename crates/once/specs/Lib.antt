@@ -1,7 +1,6 @@
 pub mod Ours
 pub mod Due
 pub mod Keeping
-pub mod Adding
 pub mod Marks
 pub mod Others
 pub mod Steps

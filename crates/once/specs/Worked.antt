@@ -33,103 +33,68 @@ use Rattle.memory.specs.Relay.{Tables, set_up, ordered, yielded}
 use Rattle.good.specs.Fresh.{fresh_view}
 use Rattle.peace.specs.Run.{Call, receive, give-up, Got, answered, released, shown, run, to, only}
 use Rattle.peace.specs.Alone.{alone, Frugal}
-use Rattle.peace.specs.Peace.{as-fresh, fresh-modest}
+use Rattle.peace.proofs.Peace.{as-fresh, fresh-modest}
 use Rattle.once.specs.Ours.{Begins, OneOf, NotGivenUp, EachGot, Comes}
 use Rattle.once.specs.Due.{awaited, start, AllSoon, Coming, HandedOnce}
-use Rattle.once.specs.Once.{handed-out-once}
 
-abbrev first : List ℕ
+abbrev pub first : List ℕ
 first = 0x02 ∷ 0x00 ∷ 0x0B ∷ 0x21 ∷ 0x00 ∷ 0x00 ∷ 0x64 ∷ 0x80 ∷ 0x00 ∷ 0x0E ∷ 0x48 ∷ 0x69 ∷ []
 
-abbrev second : List ℕ
+abbrev pub second : List ℕ
 second =
     0x03 ∷ 0x00 ∷ 0x12 ∷ 0x22 ∷ 0x00 ∷ 0x00 ∷ 0x64 ∷ 0x00 ∷ 0x00 ∷ 0x00 ∷ 0x0C ∷ 0x62 ∷ 0x6C ∷ 0x6E ∷ 0x6B ∷ 0x00 ∷ 0x00 ∷ 0x00 ∷ 0x01 ∷ []
 
 -- case 1: a whole sample; case 2: an empty one
-abbrev all : List ℕ
+abbrev pub all : List ℕ
 all = 0x01 ∷ 0x00 ∷ 0x0A ∷ 0x80 ∷ 0x01 ∷ 0x5F ∷ 0x90 ∷ 0x00 ∷ 0x02 ∷ 0x48 ∷ 0x69 ∷ []
 
-abbrev empty : List ℕ
+abbrev pub empty : List ℕ
 empty = 0x01 ∷ 0x00 ∷ 0x08 ∷ 0x80 ∷ 0x00 ∷ 0x00 ∷ 0x01 ∷ 0x00 ∷ 0x00 ∷ []
 
 -- three parts, of TYPE 2, 3 and 4
-abbrev letters : List ℕ
+abbrev pub letters : List ℕ
 letters = 0x02 ∷ 0x00 ∷ 0x0C ∷ 0x31 ∷ 0x00 ∷ 0x00 ∷ 0x64 ∷ 0x80 ∷ 0x00 ∷ 0x0F ∷ 0x61 ∷ 0x62 ∷ 0x63 ∷ []
 
-abbrev blink : List ℕ
+abbrev pub blink : List ℕ
 blink =
     0x03 ∷ 0x00 ∷ 0x10 ∷ 0x32 ∷ 0x00 ∷ 0x00 ∷ 0x64 ∷ 0x00 ∷ 0x00 ∷ 0x00 ∷ 0x0C ∷ 0x62 ∷ 0x6C ∷ 0x6E ∷ 0x6B ∷ 0x00 ∷ 0x00 ∷ []
 
-abbrev blinked : List ℕ
+abbrev pub blinked : List ℕ
 blinked = 0x04 ∷ 0x00 ∷ 0x08 ∷ 0x33 ∷ 0x00 ∷ 0x00 ∷ 0x64 ∷ 0x00 ∷ 0x01 ∷ []
 
-abbrev blank : List ℕ
+abbrev pub blank : List ℕ
 blank = replicate sample_most 0
 
-abbrev gets : (desk : ℕ) → (rest : List ℕ) → Call
+abbrev pub gets : (desk : ℕ) → (rest : List ℕ) → Call
 gets desk rest = receive desk (Known 5) rest blank
 
 -- ---- the captions, and that these are the payloads that the writer gives of them
-abbrev blnk : List ℕ
+abbrev pub blnk : List ℕ
 blnk = 0x00 ∷ 0x00 ∷ 0x00 ∷ 0x0C ∷ 0x62 ∷ 0x6C ∷ 0x6E ∷ 0x6B ∷ 0x00 ∷ 0x00 ∷ 0x00 ∷ 0x01 ∷ []
 
-abbrev hi : Caption
+abbrev pub hi : Caption
 hi = caption 0 128 100 (0x48 ∷ 0x69 ∷ []) blnk
 
-abbrev plain : Caption
+abbrev pub plain : Caption
 plain = caption 0 128 90000 (0x48 ∷ 0x69 ∷ []) []
 
-abbrev abc : Caption
+abbrev pub abc : Caption
 abc = caption 0 128 100 (0x61 ∷ 0x62 ∷ 0x63 ∷ []) blnk
-
-two-payloads : (count hi 19 ≡ 2) × (payload hi 19 1 ≡ first) × (payload hi 19 2 ≡ second)
-    × ((written hi 19 1 (replicate 19 0)).answer ≡ Payload 12 2)
-unfolding count payload_unit payload_data part_unit part_head written uncut unwritable ill_formed unsized well_formed well_within long pieces
-    modified cuts cuts_within reach reach_within character chart within follows charted ◌⇒◌⁏◌ ◌<?◌ ◌=?◌
-two-payloads = (refl, refl, refl, refl)
-
-one-payload : (count plain 14 ≡ 1) × (payload plain 14 1 ≡ all) × ((written plain 14 1 (replicate 14 0)).answer ≡ Payload 11 1)
-unfolding count payload_unit payload_data part_unit part_head written uncut unwritable ill_formed unsized well_formed well_within long pieces
-    modified cuts cuts_within reach reach_within character chart within follows charted ◌⇒◌⁏◌ ◌<?◌ ◌=?◌
-one-payload = (refl, refl, refl)
-
-three-payloads : (count abc 17 ≡ 3) × (payload abc 17 1 ≡ letters) × (payload abc 17 2 ≡ blink) × (payload abc 17 3 ≡ blinked)
-    × ((written abc 17 1 (replicate 17 0)).answer ≡ Payload 13 3)
-unfolding count payload_unit payload_data part_unit part_head written uncut unwritable ill_formed unsized well_formed well_within long pieces
-    modified cuts cuts_within reach reach_within character chart within follows charted ◌⇒◌⁏◌ ◌<?◌ ◌=?◌
-three-payloads = (refl, refl, refl, refl, refl)
-
--- bytes that are a payload, and what follows them, begin with it
-starts : (c : Caption) (M k : ℕ) (bytes more : List ℕ) → payload c M k ≡ bytes → 1 ≤ k → k ≤ count c M → Begins c M k (bytes ++ more)
-starts c M k bytes more e a b = record { from = a; to = b; more = more; is = ap (λ (l : List ℕ). l ++ more) (sym e) }
-
-one_of : {c : Caption} {M k : ℕ} {rest : List ℕ} → Begins c M k rest → OneOf c M rest
-one_of {c} {M} {k} b = record { number = k; begins = b }
-
-room : sample_most ≤ length blank
-room = omega (arith, length-replicate {A = ℕ} sample_most 0)
 
 -- ---- two parts: a give-up that is refused, the second part, the first with an output that is too short, the second again, the first
 -- with more in its rest, a give-up that is refused, and the first again
-abbrev calls : (desk : ℕ) → List Call
+abbrev pub calls : (desk : ℕ) → List Call
 calls desk =
     give-up desk 5 ∷ gets desk second ∷ receive desk (Known 5) first [] ∷ gets desk second ∷ gets desk (first ++ second) ∷ give-up desk 5
     ∷ gets desk first ∷ []
 
 -- a whole sample between two give-ups that are refused, and it again
-abbrev whole_calls : (desk : ℕ) → List Call
+abbrev pub whole_calls : (desk : ℕ) → List Call
 whole_calls desk = give-up desk 5 ∷ gets desk all ∷ give-up desk 5 ∷ gets desk all ∷ []
 
 -- three parts, out of order, between two give-ups that are refused, and one of them again
-abbrev three_calls : (desk : ℕ) → List Call
+abbrev pub three_calls : (desk : ℕ) → List Call
 three_calls desk = give-up desk 5 ∷ gets desk blinked ∷ gets desk letters ∷ gets desk blink ∷ give-up desk 5 ∷ gets desk letters ∷ []
-
--- a refused give-up frees nothing
-refusing : released (G.Refused R.NotOpen) ≡ released Freed → ⊥
-refusing e = let z : ◌≡◌ {A = ℕ} 0 1 = cc in omega arith
-
-idle : {A : Type 0} → false ≡ true → A
-idle e = absurd (true≢false (sym e))
 
 -- in each of them two samples at most are open, no give-up frees the sample, and no other finishes
 pub record Meets (c : Caption) (M : ℕ) (xs : List Call) : Type 0 where
@@ -137,133 +102,13 @@ pub record Meets (c : Caption) (M : ℕ) (xs : List Call) : Type 0 where
   pub kept-up : EachGot (NotGivenUp 5) xs (alone fresh_view xs)
   pub soon : AllSoon c M 5 start xs (alone fresh_view xs)
 
-meets : (desk : ℕ) → Meets hi 19 (calls desk) × Meets plain 14 (whole_calls desk) × Meets abc 17 (three_calls desk)
-unfolding ◌⇒◌⁏◌ ◌<?◌ ◌=?◌ read_of broken judged text_judged ill_text fields_of least bad_part bad_whole bare outside has agrees stands repeats
-    oversize told_with telling laid kept missing pieces_in pieces_of among later later_part sample_of conflicts six used_up completed joining
-    whole_taken received ordered ones moved_row marked_row marked_used J.laters J.going J.ordered J.sound flatten asks_part same given_up
-    yielded awaited count long pieces modified cuts cuts_within reach reach_within well_formed well_within character chart within
-    follows charted
-meets desk = (
-  record {
-    frugal = (idle, (λ e. omega arith, (idle, (idle, (idle, (idle, (idle, tt)))))));
-    kept-up = (λ q. refusing, (tt, (tt, (tt, (tt, (λ q. refusing, (tt, tt)))))));
-    soon = (λ e. tt, (λ e. tt, (λ e. tt, (λ e. tt, (λ e. tt, (λ e. omega arith, (λ e. omega arith, tt)))))));
-  },
-  record {
-    frugal = (idle, (idle, (idle, (idle, tt))));
-    kept-up = (λ q. refusing, (tt, (λ q. refusing, (tt, tt))));
-    soon = (λ e. tt, (λ e. tt, (λ e. omega arith, (λ e. omega arith, tt))));
-  },
-  record {
-    frugal = (idle, (λ e. omega arith, (idle, (idle, (idle, (idle, tt))))));
-    kept-up = (λ q. refusing, (tt, (tt, (tt, (λ q. refusing, (tt, tt))))));
-    soon = (λ e. tt, (λ e. tt, (λ e. tt, (λ e. tt, (λ e. omega arith, (λ e. omega arith, tt))))));
-  },
-)
-
--- ---- all that 'handed out once' presumes is met
-coming : (desk : ℕ) → Coming hi 19 2 5 (calls desk) (alone fresh_view (calls desk))
-coming desk = record {
-  writes = record { number = 1; out = replicate 19 0; len = 12; answer = two-payloads.3 };
-  ours = (tt, (λ e. one_of (two []), (λ e. one_of (one []), (λ e. one_of (two []), (λ e. one_of (one second), (tt, (λ e. one_of (one []), tt)))))));
-  each = come;
-  kept-up = (meets desk).0.kept-up;
-  soon = (meets desk).0.soon;
-}
-  where
-    one : (more : List ℕ) → Begins hi 19 1 (first ++ more)
-    one more = starts hi 19 1 first more two-payloads.1 (omega arith) (omega (arith, two-payloads.0))
-
-    two : (more : List ℕ) → Begins hi 19 2 (second ++ more)
-    two more = starts hi 19 2 second more two-payloads.2 (omega arith) (omega (arith, two-payloads.0))
-
-    come : (k : ℕ) → 1 ≤ k → k ≤ 2 → Comes hi 19 5 k (calls desk)
-    come zero a b = absurd (omega arith)
-    come (suc zero) a b = inr (inr (inr (inr (inl (refl, room, one second)))))
-    come (suc (suc zero)) a b = inr (inl (refl, room, two []))
-    come (suc (suc (suc k))) a b = absurd (omega arith)
-
-whole-coming : (desk : ℕ) → Coming plain 14 1 5 (whole_calls desk) (alone fresh_view (whole_calls desk))
-whole-coming desk = record {
-  writes = record { number = 1; out = replicate 14 0; len = 11; answer = one-payload.2 };
-  ours = (tt, (λ e. one_of only_one, (tt, (λ e. one_of only_one, tt))));
-  each = come;
-  kept-up = (meets desk).1.kept-up;
-  soon = (meets desk).1.soon;
-}
-  where
-    only_one : Begins plain 14 1 all
-    only_one = starts plain 14 1 all [] one-payload.1 (omega arith) (omega (arith, one-payload.0))
-
-    come : (k : ℕ) → 1 ≤ k → k ≤ 1 → Comes plain 14 5 k (whole_calls desk)
-    come zero a b = absurd (omega arith)
-    come (suc zero) a b = inr (inl (refl, room, only_one))
-    come (suc (suc k)) a b = absurd (omega arith)
-
-three-coming : (desk : ℕ) → Coming abc 17 3 5 (three_calls desk) (alone fresh_view (three_calls desk))
-three-coming desk = record {
-  writes = record { number = 1; out = replicate 17 0; len = 13; answer = three-payloads.4 };
-  ours = (tt, (λ e. one_of three, (λ e. one_of one, (λ e. one_of two, (tt, (λ e. one_of one, tt))))));
-  each = come;
-  kept-up = (meets desk).2.kept-up;
-  soon = (meets desk).2.soon;
-}
-  where
-    one : Begins abc 17 1 letters
-    one = starts abc 17 1 letters [] three-payloads.1 (omega arith) (omega (arith, three-payloads.0))
-
-    two : Begins abc 17 2 blink
-    two = starts abc 17 2 blink [] three-payloads.2 (omega arith) (omega (arith, three-payloads.0))
-
-    three : Begins abc 17 3 blinked
-    three = starts abc 17 3 blinked [] three-payloads.3 (omega arith) (omega (arith, three-payloads.0))
-
-    come : (k : ℕ) → 1 ≤ k → k ≤ 3 → Comes abc 17 5 k (three_calls desk)
-    come zero a b = absurd (omega arith)
-    come (suc zero) a b = inr (inr (inl (refl, room, one)))
-    come (suc (suc zero)) a b = inr (inr (inr (inl (refl, room, two))))
-    come (suc (suc (suc zero))) a b = inr (inl (refl, room, three))
-    come (suc (suc (suc (suc k)))) a b = absurd (omega arith)
-
--- ---- in any lent memory, among any others, whatever they do
-module _ (c : Caption) (M N : ℕ) (xs : List Call) (f : Frugal fresh_view xs) (p : Coming c M N 5 xs (alone fresh_view xs)) where
-  anywhere : (n d : ℕ) → d < n → (s : Tables) → (set_up n s).answer ≡ Ready → (ys : List Call) → only d ys ≡ xs
-      → HandedOnce c M 5 xs (to d (run (set_up n s).tables ys))
-  anywhere n d h s e ys q =
-      let r = (set_up n s).tables in
-      let z : Coming c M N 5 (only d ys) (to d (run r ys)) =
-      subst (λ (l : List Call). Coming c M N 5 l (to d (run r ys))) (sym q)
-      (subst (Coming c M N 5 xs) (sym (as-fresh n d h s e ys xs q f)) p) in
-      subst (λ (l : List Call). HandedOnce c M 5 l (to d (run r ys))) q
-      (handed-out-once n d h s e ys (fresh-modest n d h s e ys xs q f) c M N 5 z)
-
-pub in-any-run : (n d : ℕ) → d < n → (s : Tables) → (set_up n s).answer ≡ Ready → (xs : List Call) → only d xs ≡ calls d
-    → HandedOnce hi 19 5 (calls d) (to d (run (set_up n s).tables xs))
-in-any-run n d = anywhere hi 19 2 (calls d) (meets d).0.frugal (coming d) n d
-
-pub whole-in-any-run : (n d : ℕ) → d < n → (s : Tables) → (set_up n s).answer ≡ Ready → (xs : List Call) → only d xs ≡ whole_calls d
-    → HandedOnce plain 14 5 (whole_calls d) (to d (run (set_up n s).tables xs))
-whole-in-any-run n d = anywhere plain 14 1 (whole_calls d) (meets d).1.frugal (whole-coming d) n d
-
-pub three-in-any-run : (n d : ℕ) → d < n → (s : Tables) → (set_up n s).answer ≡ Ready → (xs : List Call) → only d xs ≡ three_calls d
-    → HandedOnce abc 17 5 (three_calls d) (to d (run (set_up n s).tables xs))
-three-in-any-run n d = anywhere abc 17 3 (three_calls d) (meets d).2.frugal (three-coming d) n d
-
 -- ---- the sharp edge: n other samples finish, and the first part comes again
-abbrev others : (n : ℕ) → List Call
+abbrev pub others : (n : ℕ) → List Call
 others zero = gets 0 first ∷ []
 others (suc n) = receive 0 (Known (100 + n)) empty blank ∷ others n
 
-abbrev run_with : (n : ℕ) → List Call
+abbrev pub run_with : (n : ℕ) → List Call
 run_with n = gets 0 first ∷ gets 0 second ∷ others n
 
-abbrev hears : Outcome → Got
+abbrev pub hears : Outcome → Got
 hears x = answered (says 12 (Known 5) x) blank
-
--- fifteen samples later it is late, and sixteen later it opens the sample anew
-pub sharp-edge : (get_or (alone fresh_view (run_with 15)) 17 (shown []) ≡ hears (O.Refused R.Late)) × (get_or (alone fresh_view (run_with 16)) 18 (shown []) ≡ hears (O.Kept 1))
-unfolding ◌⇒◌⁏◌ ◌<?◌ ◌=?◌ read_of broken judged text_judged ill_text fields_of least bad_part bad_whole bare outside has agrees stands repeats
-    oversize told_with telling laid kept missing pieces_in pieces_of among later later_part sample_of conflicts six used_up completed joining
-    whole_taken received ordered ones moved_row marked_row marked_used J.laters J.going J.ordered J.sound flatten well_formed well_within
-    character chart within follows charted
-sharp-edge = (refl, refl)

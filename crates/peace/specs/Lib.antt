@@ -1,6 +1,5 @@
 pub mod Run
 pub mod Alone
-pub mod Peace
 pub mod Exactly
 pub mod Always
 pub mod Walked

@@ -31,7 +31,7 @@ use Rattle.good.specs.Lifted.{no-relay-receive, no-relay-give-up, no-relay-looku
 use Rattle.good.specs.Fresh.{fresh_view, Exact, exact_tables, set-up-exact}
 use Rattle.peace.specs.Run.{Call, receive, give-up, lookup, caller, Got, answered, released, shown, got, next, run, to, only}
 use Rattle.peace.specs.Alone.{alone, Frugal}
-use Rattle.peace.specs.Peace.{as-fresh}
+use Rattle.peace.proofs.Peace.{as-fresh}
 
 -- ---- cases 7 and 8 of document 01: the two parts of one sample, and the sample
 abbrev first : List ℕ

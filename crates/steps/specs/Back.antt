@@ -23,7 +23,8 @@ use Rattle.unit.specs.declared.Unit.{Unit}
 use Rattle.unit.specs.declared.Unit.TheVariants as U
 use Rattle.unit.specs.declared.Reading.{Reading}
 use Rattle.unit.specs.Layout.{read_of, data_of}
-use Rattle.unit.specs.Reads.{Counts, Counted, reads-counted}
+use Rattle.unit.specs.Reads.{Counts, Counted}
+use Rattle.unit.proofs.Readings.{reads-counted}
 use Rattle.sample.specs.declared.Place.{Place}
 use Rattle.sample.specs.Place.{bare, closed}
 use Rattle.desk.specs.declared.Shares.{Shares}
@@ -37,8 +38,8 @@ use Rattle.memory.specs.Table.{vacant, is_at}
 use Rattle.memory.specs.Relay.{Tables, tables, desks_of, places_of, stored_shares, open_at, own_of, placed}
 use Rattle.memory.specs.Relay.{was_open, is_open, recounted, stranger, lacking, Done, done, ordered, settled, received_among}
 use Rattle.memory.specs.Relay.{received_at}
-use Rattle.memory.specs.Back.{open_unknown, placed-open, still_open, put_same}
-use Rattle.memory.specs.Counted.{recounted-same, is-closed}
+use Rattle.memory.proofs.Back.{open_unknown, placed-open, still_open, put_same}
+use Rattle.memory.proofs.Counted.{recounted-same, is-closed}
 use Rattle.looks.specs.Looks.{reach_at, reach_for, asked_of, spot_of}
 use Rattle.steps.specs.Plan.{Plan, plan, plan_of, own_at, part_planned, pass_planned}
 use Rattle.gate.specs.Tests.{proper, all-long}

@@ -18,7 +18,7 @@ use Rattle.asks.specs.Settled.{open_in, laid}
 use Rattle.table.specs.Table.{holds}
 use Rattle.memory.specs.Table.{vacant, is_at}
 use Rattle.memory.specs.Relay.{stands_at, placed, was_open, is_open}
-use Rattle.memory.specs.Counted.{is_open_lem, is_none}
+use Rattle.memory.proofs.Counted.{is_open_lem, is_none}
 use Rattle.looks.specs.Looks.{reach_of, reach_at, spot_of}
 use Rattle.steps.specs.Kept.{before_at, kept_places, open_none}
 

@@ -12,7 +12,7 @@ use Rattle.sample.specs.Place.{bare, closed}
 use Rattle.asks.specs.declared.Arrival.{Arrival}
 use Rattle.asks.specs.Settled.{open_in, laid}
 use Rattle.memory.specs.Relay.{Tables, tables, recounted, Done, done}
-use Rattle.memory.specs.Counted.{recounted-same}
+use Rattle.memory.proofs.Counted.{recounted-same}
 use Rattle.memory.specs.Lent.{Slice, Lent}
 use Rattle.steps.specs.Plan.{Plan, plan, part_planned, laid_plan, counted_plan}
 

@@ -12,7 +12,7 @@ use Rattle.sample.specs.Kept.{opened-has}
 use Rattle.sample.specs.Missing.{keep-missing}
 use Rattle.desk.specs.declared.Shares.{Shares}
 use Rattle.desk.specs.Desk.{Own, After, sample_of, completed, joining, part_taken, part_at}
-use Rattle.desk.specs.Effects.{at-times}
+use Rattle.desk.proofs.Effects.{at-times}
 
 unopened : (desk time : ℕ) (x : P.Part) → x.total ≤ 1 → missing (opened desk time x) ≤ 1
 unfolding missing bare

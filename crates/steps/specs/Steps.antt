@@ -24,7 +24,7 @@ use Rattle.asks.specs.declared.Arrival.{Arrival}
 use Rattle.asks.specs.Settled.{open_in, laid_in, passed}
 use Rattle.asks.specs.Asked.{laid_same}
 use Rattle.memory.specs.Relay.{desks_of, row_of, marks_of, store_of, stored_shares, recounted, stranger, lacks_three, yielded}
-use Rattle.memory.specs.Counted.{recounted-same}
+use Rattle.memory.proofs.Counted.{recounted-same}
 use Rattle.gate.specs.declared.Gate.{Gate}
 use Rattle.gate.specs.declared.Gate.TheVariants.{Through, Shut}
 use Rattle.gate.specs.Gate.{gate_of}

@@ -23,8 +23,8 @@ use Rattle.memory.specs.Table.{is_at}
 use Rattle.memory.specs.Relay.{Tables, tables, desks_of, places_of, row_of, marks_of, store_of, open_at, own_of, placed}
 use Rattle.memory.specs.Relay.{recounted, stranger, lacks_three}
 use Rattle.memory.specs.Relay.{Released, released, yielded, returned, given_up_among, given_up_at}
-use Rattle.memory.specs.Back.{put_same}
-use Rattle.memory.specs.Counted.{recounted-same, is-closed}
+use Rattle.memory.proofs.Back.{put_same}
+use Rattle.memory.proofs.Counted.{recounted-same, is-closed}
 use Rattle.looks.specs.Looks.{reach_of, freed_at}
 use Rattle.steps.specs.Plan.{Yield, yield, yielding, place_after}
 use Rattle.gate.specs.Tests.{proper, three-long}

@@ -9,10 +9,12 @@ use Rattle.std.proofs.Math.Logic.{inl, inr}
 use Rattle.laws.specs.Rows.{no, ge, lt_of, ge-of, eq_of, ne_of, each, and-of}
 use Rattle.laws.specs.Region.{part}
 use Rattle.text.specs.Unicode.{character, WellFormed, reach_within, reach, boundary}
-use Rattle.text.specs.Walk.{reach-turn, well-end}
-use Rattle.text.specs.Strings.{well-formed}
-use Rattle.text.specs.Boundary.{Reached, boundary-whole, boundary-largest}
-use Rattle.text.specs.Runs.{ascii, over, walked_to, walk-on, walk-not, walked-tells, block_most, ascii-walked}
+use Rattle.text.proofs.Walk.{reach-turn, well-end}
+use Rattle.text.proofs.Strings.{well-formed}
+use Rattle.text.specs.Boundary.{Reached}
+use Rattle.text.proofs.Boundary.{boundary-whole, boundary-largest}
+use Rattle.text.specs.Runs.{ascii, over, walked_to, block_most}
+use Rattle.text.proofs.Runs.{walk-on, walk-not, walked-tells, ascii-walked}
 
 -- ---- two walks
 

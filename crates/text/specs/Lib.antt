@@ -7,8 +7,5 @@ pub mod Ranges
 pub mod Numbers
 pub mod Eight
 pub mod Sixteen
-pub mod Finder
-pub mod Walk
-pub mod Strings
 pub mod Boundary
 pub mod Runs

@@ -1,10 +1,10 @@
 -- What only the proof needs: the number that bytes hold, the numbers of a row of the chart, and the test that the chart passes. None of it
 -- stands in a promise, and none has to be believed. Assumes nothing.
-use Rattle.std.specs.Prelude.{ℕ, suc, ◌+◌, ◌-◌, ◌*◌, ◌≡◌, refl, Bool, true, List, [], ◌∷◌}
+use Rattle.std.specs.Prelude.{ℕ, suc, ◌+◌, ◌-◌, ◌*◌, Bool, List, [], ◌∷◌}
 use Rattle.laws.specs.Rows.{◌⇒◌⁏◌, ◌or◌, ◌and◌, ◌<?◌, ◌=?◌}
 use Rattle.text.specs.declared.Range.{Range}
 use Rattle.text.specs.declared.Row.{Row}
-use Rattle.text.specs.Chart.{◌to◌, chart, within}
+use Rattle.text.specs.Chart.{◌to◌, within}
 
 -- six bits more, from a byte 80 to BF
 unfoldable pub more : (c b : ℕ) → ℕ
@@ -58,27 +58,8 @@ climbs lead from (r ∷ rs) =
     and within (lead to r.0.1) r.0.0
     and climbs (suc r.0.1) (next (last r)) rs
 
--- the chart passes
-pub chart-climbs : climbs 0 0 chart ≡ true
-unfolding climbs chart fair ranged first last number more next within ◌⇒◌⁏◌ ◌<?◌ ◌=?◌
-chart-climbs = refl
-
 -- ---- the numbers of the rows, as the chart itself has them in its first column
 
 unfoldable pub numbers : List Row → List Range
 numbers [] = []
 numbers (r ∷ rs) = (first r to last r) ∷ numbers rs
-
-pub first-column : numbers chart
-    ≡ (0x0 to 0x7F)
-    ∷ (0x80 to 0x7FF)
-    ∷ (0x800 to 0xFFF)
-    ∷ (0x1000 to 0xCFFF)
-    ∷ (0xD000 to 0xD7FF)
-    ∷ (0xE000 to 0xFFFF)
-    ∷ (0x10000 to 0x3FFFF)
-    ∷ (0x40000 to 0xFFFFF)
-    ∷ (0x100000 to 0x10FFFF)
-    ∷ []
-unfolding numbers chart first last number more ◌⇒◌⁏◌ ◌=?◌
-first-column = refl

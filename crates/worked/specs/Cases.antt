@@ -38,7 +38,7 @@ use Rattle.good.specs.Good.{ready-exactly}
 use Rattle.good.specs.Fresh.{fresh_view, Exact, exact_tables, set-up-exact}
 use Rattle.peace.specs.Run.{Call, receive, give-up, Got, answered, released, next, run}
 use Rattle.peace.specs.Alone.{alone, Frugal}
-use Rattle.peace.specs.Peace.{as-fresh}
+use Rattle.peace.proofs.Peace.{as-fresh}
 use Rattle.worked.specs.Descriptions.{blank_output, describes, describes_gets, Case9, describing, then-74, then-75}
 
 -- ---- what a case says
@@ -77,124 +77,124 @@ All [] = Unit {0}
 All (c ∷ cs) = Holds c × All cs
 
 -- ---- the calls
-abbrev at : (desk time : ℕ) → List ℕ → Call
+abbrev pub at : (desk time : ℕ) → List ℕ → Call
 at desk time rest = receive desk (Known time) rest blank_output
 
 -- a unit of case 7 at each of these times
-abbrev part1 : List ℕ
+abbrev pub part1 : List ℕ
 part1 = 0x02 ∷ 0x00 ∷ 0x0B ∷ 0x21 ∷ 0x00 ∷ 0x00 ∷ 0x64 ∷ 0x80 ∷ 0x00 ∷ 0x0E ∷ 0x48 ∷ 0x69 ∷ []
 
-abbrev part2 : List ℕ
+abbrev pub part2 : List ℕ
 part2 = 0x03 ∷ 0x00 ∷ 0x12 ∷ 0x22 ∷ 0x00 ∷ 0x00 ∷ 0x64 ∷ 0x00 ∷ 0x00 ∷ 0x00 ∷ 0x0C ∷ 0x62 ∷ 0x6C ∷ 0x6E ∷ 0x6B ∷ 0x00 ∷ 0x00 ∷ 0x00 ∷ 0x01 ∷ []
 
-abbrev joined14 : List ℕ
+abbrev pub joined14 : List ℕ
 joined14 = 0x48 ∷ 0x69 ∷ 0x00 ∷ 0x00 ∷ 0x00 ∷ 0x0C ∷ 0x62 ∷ 0x6C ∷ 0x6E ∷ 0x6B ∷ 0x00 ∷ 0x00 ∷ 0x00 ∷ 0x01 ∷ []
 
-abbrev opens : (desk : ℕ) → (times : List ℕ) → List Call
+abbrev pub opens : (desk : ℕ) → (times : List ℕ) → List Call
 opens desk times = map (λ (t : ℕ). at desk t part1) times
 
 -- ---- the answers: with the output as it was, or with a sample at its front
-abbrev hears : (used next : ℕ) → Outcome → Got
+abbrev pub hears : (used next : ℕ) → Outcome → Got
 hears used next x = answered (says used (Known next) x) blank_output
 
-abbrev handed : (used next : ℕ) → Outcome → List ℕ → Got
+abbrev pub handed : (used next : ℕ) → Outcome → List ℕ → Got
 handed used next x bytes = answered (says used (Known next) x) (sets blank_output 0 bytes)
 
-abbrev keeps : (times : List ℕ) → List Got
+abbrev pub keeps : (times : List ℕ) → List Got
 keeps times = map (λ (t : ℕ). hears 12 t (O.Kept 1)) times
 
 -- ---- the list
-abbrev case_1 : Case
+abbrev pub case_1 : Case
 case_1 =
     plays 1 (at 0 1000 (0x01 ∷ 0x00 ∷ 0x0A ∷ 0x80 ∷ 0x01 ∷ 0x5F ∷ 0x90 ∷ 0x00 ∷ 0x02 ∷ 0x48 ∷ 0x69 ∷ []) ∷ [])
     (handed 11 91000 (O.Whole (facts 1000 0 128 90000 2 2)) (0x48 ∷ 0x69 ∷ []) ∷ [])
 
-abbrev case_2 : Case
+abbrev pub case_2 : Case
 case_2 = plays 1 (at 0 0 (0x01 ∷ 0x00 ∷ 0x08 ∷ 0x80 ∷ 0x00 ∷ 0x00 ∷ 0x01 ∷ 0x00 ∷ 0x00 ∷ []) ∷ []) (hears 9 1 (O.Whole (facts 0 0 128 1 0 0)) ∷ [])
 
-abbrev case_3 : Case
+abbrev pub case_3 : Case
 case_3 = plays 1 (at 0 0 (0x01 ∷ 0x00 ∷ 0x07 ∷ 0x80 ∷ 0x00 ∷ 0x00 ∷ 0x01 ∷ 0x00 ∷ []) ∷ []) (hears 8 0 (O.Refused R.Fields) ∷ [])
 
-abbrev case_4 : Case
+abbrev pub case_4 : Case
 case_4 = plays 1 (at 0 0 (0x01 ∷ 0x00 ∷ 0x01 ∷ []) ∷ []) (hears 3 0 (O.Refused R.Frame) ∷ [])
 
-abbrev case_5 : Case
+abbrev pub case_5 : Case
 case_5 = plays 1 (at 0 0 (0x06 ∷ 0x00 ∷ 0x02 ∷ []) ∷ []) (hears 3 0 (O.Skipped 6) ∷ [])
 
-abbrev case_6 : Case
+abbrev pub case_6 : Case
 case_6 =
     plays 1 (at 0 4294967295 (0x01 ∷ 0x00 ∷ 0x08 ∷ 0x80 ∷ 0x00 ∷ 0x00 ∷ 0x02 ∷ 0x00 ∷ 0x00 ∷ []) ∷ [])
     (hears 9 1 (O.Whole (facts 4294967295 0 128 2 0 0)) ∷ [])
 
 -- the part with THIS = TOTAL moves the time by its SDUR
-abbrev case_7_8 : Case
+abbrev pub case_7_8 : Case
 case_7_8 = plays 1 (at 0 5 part1 ∷ at 0 5 part2 ∷ []) (hears 12 5 (O.Kept 1) ∷ handed 19 105 (O.Joined (facts 5 0 128 100 2 14)) joined14 ∷ [])
 
-abbrev case_8_7 : Case
+abbrev pub case_8_7 : Case
 case_8_7 = plays 1 (at 0 5 part2 ∷ at 0 5 part1 ∷ []) (hears 19 105 (O.Kept 1) ∷ handed 12 5 (O.Joined (facts 5 0 128 100 2 14)) joined14 ∷ [])
 
 -- newest 10, then 74: newest 74, 10 forgotten. Newest 10, then 75: newest stays, so 10 is held still, and so is 75, the last before it
-abbrev case_9_74 : Case
+abbrev pub case_9_74 : Case
 case_9_74 = plays 1 (describes 0 74) (describes_gets [])
 
-abbrev case_9_75 : Case
+abbrev pub case_9_75 : Case
 case_9_75 = plays 1 (describes 0 75) (describes_gets (0x41 ∷ []))
 
-abbrev case_10 : Case
+abbrev pub case_10 : Case
 case_10 =
     plays 2 (opens 0 (1 ∷ 2 ∷ 3 ∷ 4 ∷ 5 ∷ 6 ∷ 7 ∷ []) ++ opens 1 (1 ∷ 2 ∷ 3 ∷ []))
     (keeps (1 ∷ 2 ∷ 3 ∷ 4 ∷ 5 ∷ 6 ∷ []) ++ (hears 12 7 (O.Refused R.Six) ∷ keeps (1 ∷ 2 ∷ []) ++ (hears 12 3 (O.Refused R.Common) ∷ [])))
 
 -- eight letters in two parts of four: LEN 13, TOTAL 2 and THIS, SDUR 1, SIDX 128, SLEN 8. The output behind them stays
-abbrev case_11 : (k TOTAL-THIS : ℕ) → Case
+abbrev pub case_11 : (k TOTAL-THIS : ℕ) → Case
 case_11 k TOTAL-THIS =
     writes 8 14 k (W.Payload 14 2)
     (0x02 ∷ 0x00 ∷ 0x0D ∷ TOTAL-THIS ∷ 0x00 ∷ 0x00 ∷ 0x01 ∷ 0x80 ∷ 0x00 ∷ 0x08 ∷ replicate 4 0x61 ++ replicate 6 0xEE)
 
 -- and in one TYPE 1
-abbrev case_11_whole : Case
+abbrev pub case_11_whole : Case
 case_11_whole =
     writes 8 17 1 (W.Payload 17 1) (0x01 ∷ 0x00 ∷ 0x10 ∷ 0x80 ∷ 0x00 ∷ 0x00 ∷ 0x01 ∷ 0x00 ∷ 0x08 ∷ replicate 8 0x61 ++ replicate 3 0xEE)
 
-abbrev case_12 : Case
+abbrev pub case_12 : Case
 case_12 =
     writes 60 14 15 (W.Payload 14 15)
     (0x02 ∷ 0x00 ∷ 0x0D ∷ 0xFF ∷ 0x00 ∷ 0x00 ∷ 0x01 ∷ 0x80 ∷ 0x00 ∷ 0x3C ∷ replicate 4 0x61 ++ replicate 6 0xEE)
 
-abbrev case_12_refused : Case
+abbrev pub case_12_refused : Case
 case_12_refused = writes 61 14 1 (W.Refused R.Parts) lent_output
 
 -- ---- request 1 of document 02
 -- SDUR 9, TLEN 1,025 and as many bytes FF, at time 6: 17, before 5; the unit's bytes are used, and the time stays
-abbrev case_17_long : Case
+abbrev pub case_17_long : Case
 case_17_long =
     plays 1
     (at 0 6 (0x01 ∷ 0x04 ∷ 0x09 ∷ 0x80 ∷ 0x00 ∷ 0x00 ∷ 0x09 ∷ 0x04 ∷ 0x01 ∷ replicate 1025 0xFF) ∷ [])
     (hears 1034 6 (O.Refused R.IllFormed) ∷ [])
 
 -- a part of two, at time 5, whose data is these bytes of SLEN 3; the second would add its SDUR
-abbrev euro : (LEN TOTAL-THIS : ℕ) → List ℕ → Call
+abbrev pub euro : (LEN TOTAL-THIS : ℕ) → List ℕ → Call
 euro LEN TOTAL-THIS d = at 0 5 (0x02 ∷ 0x00 ∷ LEN ∷ TOTAL-THIS ∷ 0x00 ∷ 0x00 ∷ 0x64 ∷ 0x80 ∷ 0x00 ∷ 0x03 ∷ d)
 
 -- the euro sign cut inside: each part is judged by itself, so both are 17, and nothing is open
-abbrev case_17_halves : Case
+abbrev pub case_17_halves : Case
 case_17_halves =
     plays 1 (euro 0x0B 0x21 (0xE2 ∷ 0x82 ∷ []) ∷ euro 0x0A 0x22 (0xAC ∷ []) ∷ give-up 0 5 ∷ [])
     (hears 12 5 (O.Refused R.IllFormed) ∷ hears 11 5 (O.Refused R.IllFormed) ∷ released (G.Refused R.NotOpen) ∷ [])
 
 -- a sample of these bytes, the first TLEN of them its string; byte 0 is U and TYPE 1, SDUR 1
-abbrev text : (head LEN TLEN : ℕ) → List ℕ → List ℕ
+abbrev pub text : (head LEN TLEN : ℕ) → List ℕ → List ℕ
 text head LEN TLEN d = head ∷ 0x00 ∷ LEN ∷ 0x80 ∷ 0x00 ∷ 0x00 ∷ 0x01 ∷ 0x00 ∷ TLEN ∷ d
 
 -- behind TLEN nothing is looked at; at a time that is finished a good string is late, and a bad one 17, which adds nothing
-abbrev case_17_late : Case
+abbrev pub case_17_late : Case
 case_17_late =
     plays 1 (at 0 7 (text 0x01 9 0 (0xFF ∷ [])) ∷ at 0 7 (text 0x01 9 0 (0xFF ∷ [])) ∷ at 0 7 (text 0x01 9 1 (0xFF ∷ [])) ∷ [])
     (handed 10 8 (O.Whole (facts 7 0 128 1 0 1)) (0xFF ∷ []) ∷ hears 10 8 (O.Refused R.Late) ∷ hears 10 7 (O.Refused R.IllFormed) ∷ [])
 
 -- U says how: 'A' is a string of UTF-8 and an odd length of UTF-16; D8 80 is a letter of UTF-8 and half a pair of UTF-16, and D8 3D DE 00 a
 -- pair of UTF-16 and none of UTF-8
-abbrev case_17_other : Case
+abbrev pub case_17_other : Case
 case_17_other =
     plays 1
     (at 0 1 (text 0x01 9 1 (0x41 ∷ [])) ∷ at 0 2 (text 0x81 9 1 (0x41 ∷ [])) ∷ at 0 3 (text 0x01 10 2 (0xD8 ∷ 0x80 ∷ []))
@@ -205,18 +205,18 @@ case_17_other =
     ∷ handed 13 6 (O.Whole (facts 5 1 128 1 4 4)) (0xD8 ∷ 0x3D ∷ 0xDE ∷ 0x00 ∷ []) ∷ hears 13 6 (O.Refused R.IllFormed) ∷ [])
 
 -- of TYPE 3 nothing is looked at: FF is kept
-abbrev case_17_modifiers : Case
+abbrev pub case_17_modifiers : Case
 case_17_modifiers =
     plays 1 (at 0 5 (0x03 ∷ 0x00 ∷ 0x07 ∷ 0x22 ∷ 0x00 ∷ 0x00 ∷ 0x64 ∷ 0xFF ∷ []) ∷ []) (hears 8 105 (O.Kept 1) ∷ [])
 
 -- ---- request 2 of document 02
 -- two desks, the common use, and the open samples of either
-abbrev two : (common first second : ℕ) → List ℕ
+abbrev pub two : (common first second : ℕ) → List ℕ
 two common first second = 2 ∷ common ∷ first ∷ second ∷ replicate 6 0
 
 -- the third takes a common place; one is joined; with two open a sample of one part opens and ends in one call, joined or, being of TYPE
 -- 3, spoiled; another is opened, and one is spoiled (refusal 10: three bytes of fourteen); of the two that are left one is given up
-abbrev case_stored : Case
+abbrev pub case_stored : Case
 case_stored =
     stores
     (opens 0 (1 ∷ 2 ∷ 3 ∷ []) ++ (at 0 1 part2 ∷ at 0 5 (0x02 ∷ 0x00 ∷ 0x0A ∷ 0x11 ∷ 0x00 ∷ 0x00 ∷ 0x64 ∷ 0x80 ∷ 0x00 ∷ 0x01 ∷ 0x41 ∷ [])
@@ -226,35 +226,35 @@ case_stored =
 
 -- ---- request 3 of document 02
 -- a line of one letter whose SDUR is 0; and what stands behind it in its payload: a sample of SDUR 5, a description, a TYPE 6, one byte
-abbrev line : List ℕ
+abbrev pub line : List ℕ
 line = 0x01 ∷ 0x00 ∷ 0x09 ∷ 0x80 ∷ 0x00 ∷ 0x00 ∷ 0x00 ∷ 0x00 ∷ 0x01 ∷ 0x41 ∷ []
 
-abbrev behind : List ℕ
+abbrev pub behind : List ℕ
 behind =
     0x01 ∷ 0x00 ∷ 0x08 ∷ 0x80 ∷ 0x00 ∷ 0x00 ∷ 0x05 ∷ 0x00 ∷ 0x00 ∷ 0x05 ∷ 0x00 ∷ 0x04 ∷ 0x01 ∷ 0x61 ∷ 0x06 ∷ 0x00 ∷ 0x02 ∷ 0x01 ∷ []
 
 -- at an unknown time: what is left behind so many bytes of these, and an answer that says the time is unknown
-abbrev lost : (bytes : ℕ) → Call
+abbrev pub lost : (bytes : ℕ) → Call
 lost bytes = receive 0 Unknown (drop bytes behind) blank_output
 
-abbrev unknown : (used : ℕ) → Outcome → Got
+abbrev pub unknown : (used : ℕ) → Outcome → Got
 unknown used x = answered (says used Unknown x) blank_output
 
 -- a sample whose string is half a letter, and the last of two parts, of SDUR 0
-abbrev half : List ℕ
+abbrev pub half : List ℕ
 half = 0x01 ∷ 0x00 ∷ 0x09 ∷ 0x80 ∷ 0x00 ∷ 0x00 ∷ 0x05 ∷ 0x00 ∷ 0x01 ∷ 0xC3 ∷ []
 
-abbrev last : List ℕ
+abbrev pub last : List ℕ
 last = 0x02 ∷ 0x00 ∷ 0x0A ∷ 0x22 ∷ 0x00 ∷ 0x00 ∷ 0x00 ∷ 0x80 ∷ 0x00 ∷ 0x02 ∷ 0x42 ∷ []
 
 -- the time behind the line is unknown: the sample there is 18, and all else as ever, 17 too. In a second payload, of the same time, it is
 -- late, and the time unknown again; and so it is behind a last part that is kept
-abbrev live_calls : List Call
+abbrev pub live_calls : List Call
 live_calls =
     at 0 0 (line ++ behind) ∷ lost 0 ∷ lost 9 ∷ lost 14 ∷ lost 17 ∷ lost 18 ∷ receive 0 Unknown half blank_output ∷ at 0 0 line
     ∷ at 0 9 last ∷ []
 
-abbrev live_gets : List Got
+abbrev pub live_gets : List Got
 live_gets =
     answered (says 10 Unknown (O.Whole (facts 0 0 128 0 1 1))) (sets blank_output 0 (0x41 ∷ [])) ∷ unknown 9 (O.Refused R.Untimed)
     ∷ unknown 5 O.Described ∷ unknown 3 (O.Skipped 6) ∷ unknown 1 (O.Refused R.Frame) ∷ unknown 0 O.End
@@ -262,7 +262,7 @@ live_gets =
     ∷ unknown 10 (O.Refused R.Late) ∷ unknown 11 (O.Kept 1)
     ∷ []
 
-abbrev case_live : Case
+abbrev pub case_live : Case
 case_live = plays 1 live_calls live_gets
 
 -- ---- the cases of document 01, and those of requests 1, 2 and 3
@@ -285,106 +285,14 @@ abbrev pub cases_live : List Case
 cases_live = case_live ∷ []
 
 -- ---- what the rules compute to in the memory that set-up makes
-abbrev gets : (desks : ℕ) → List Call → List Got
+abbrev pub gets : (desks : ℕ) → List Call → List Got
 gets desks calls = gotten (run (exact_tables desks) calls)
 
-abbrev Computes : Case → Type 0
+abbrev pub Computes : Case → Type 0
 Computes (plays desks calls x) = gets desks calls ≡ x
 Computes (stores calls heads) = heads_of (exact_tables 2) calls ≡ heads
 Computes (writes many M k w out) = Holds (writes many M k w out)
 
--- a case holds by computation, or by laws
-so : (c : Case) → Computes c ⊎ Holds c → Holds c
-so c (inr h) = h
-so (plays desks calls x) (inl e) =
-    λ s p q.
-    subst (λ (t : Tables). gotten (run t calls) ≡ x)
-    (sym (set-up-exact desks s (or-none _ _ ((ready-exactly desks s).0 p)).0 q)) e
-so (stores calls heads) (inl e) =
-    λ s p q. subst (λ (t : Tables). heads_of t calls ≡ heads) (sym (set-up-exact 2 s (or-none _ _ ((ready-exactly 2 s).0 p)).0 q)) e
-so (writes many M k w out) (inl e) = e
-
--- cases 1 and 5, which no relay plays that refuses everything or has a constant answer
-one-and-five : Computes case_1 × Computes case_5
-unfolding ◌⇒◌⁏◌ ◌<?◌ ◌=?◌ read_of broken judged text_judged ill_text fields_of least bad_part bad_whole bare outside has agrees stands repeats
-    oversize told_with telling laid kept missing pieces_in pieces_of among later later_part sample_of conflicts six used_up whole_taken completed
-    joining received stands_at improper stranger short own_marks ordered received_among ones marked_row marked_used J.laters J.going
-    J.ordered J.sound flatten part_head written count uncut unwritable ill_formed unsized well_formed well_within long part_unit
-    payload_data payload_unit pieces modified cuts cuts_within reach reach_within character chart within follows charted
-one-and-five = (refl, refl)
-
--- case 9 by laws, for its stores are not computed; `describing` says the same for any memory that is long enough
-case-9-holds : (b : ℕ) (ten : List ℕ) → Case9 b ten → Holds (plays 1 (describes 0 b) (describes_gets ten))
-unfolding ◌⇒◌⁏◌ ◌=?◌
-case-9-holds b ten c = λ s p q. describing b ten c 1 0 (omega arith) s p (describes 0 b) refl
-
--- the case of request 3 by the law of a frugal desk, for behind the description the length of the stores is not computed
-live-alone : (alone fresh_view live_calls ≡ live_gets) × Frugal fresh_view live_calls
-unfolding ◌⇒◌⁏◌ ◌<?◌ ◌=?◌ read_of broken judged text_judged ill_text fields_of least bad_whole bad_part bad_description bare outside has agrees
-    stands repeats oversize told_with telling laid kept missing pieces_in pieces_of among later later_part sample_of conflicts six used_up
-    whole_taken completed joining asks_part description_taken noted S.improper held in_window repeated received ordered ones marked_row marked_used
-    well_formed well_within character chart within follows charted
-live-alone = (refl, (idle, (idle, (idle, (idle, (idle, (idle, (idle, (idle, (λ e. omega arith, tt))))))))))
-  where
-    idle : {A : Type 0} → false ≡ true → A
-    idle e = absurd (true≢false (sym e))
-
-live-holds : Holds case_live
-unfolding ◌⇒◌⁏◌ ◌=?◌
-live-holds = λ s p q. as-fresh 1 0 (omega arith) s p live_calls live_calls refl live-alone.1 ∙ live-alone.0
-
-abbrev AllHold : List Case → Type 0
+abbrev pub AllHold : List Case → Type 0
 AllHold [] = Unit {0}
 AllHold (c ∷ cs) = (Computes c ⊎ Holds c) × AllHold cs
-
-all_so : (cs : List Case) → AllHold cs → All cs
-all_so [] e = tt
-all_so (c ∷ cs) e = (so c e.0, all_so cs e.1)
-
-each_holds : AllHold cases_01 × (AllHold cases_17 × (AllHold cases_stored × AllHold cases_live))
-unfolding ◌⇒◌⁏◌ ◌<?◌ ◌=?◌ read_of broken judged text_judged ill_text fields_of least bad_part bad_whole bare outside has agrees stands
-    repeats oversize told_with telling laid kept missing pieces_in pieces_of among later later_part sample_of conflicts six used_up whole_taken
-    completed joining received stands_at stepped common_stepped improper stranger short own_marks ordered received_among ones marked_row
-    marked_used J.laters J.going J.ordered J.sound flatten part_head written count uncut unwritable ill_formed unsized well_formed
-    well_within long part_unit payload_data payload_unit pieces modified cuts cuts_within reach reach_within character chart within follows
-    charted unit_at paired given_up yielded given_up_among
-each_holds = (
-  (
-    inl one-and-five.0,
-    (
-      inl refl,
-      (
-        inl refl,
-        (
-          inl refl,
-          (
-            inl one-and-five.1,
-            (
-              inl refl,
-              (
-                inl refl,
-                (
-                  inl refl,
-                  (
-                    inr (case-9-holds 74 [] then-74),
-                    (
-                      inr (case-9-holds 75 (0x41 ∷ []) then-75),
-                      (inl refl, (inl refl, (inl refl, (inl refl, (inl refl, (inl refl, tt)))))),
-                    ),
-                  ),
-                ),
-              ),
-            ),
-          ),
-        ),
-      ),
-    ),
-  ),
-  ((inl refl, (inl refl, (inl refl, (inl refl, (inl refl, tt))))), ((inl refl, tt), (inr live-holds, tt))),
-)
-
-pub worked : All cases_01 × (All cases_17 × (All cases_stored × All cases_live))
-worked = (
-  all_so cases_01 each_holds.0,
-  (all_so cases_17 each_holds.1.0, (all_so cases_stored each_holds.1.1.0, all_so cases_live each_holds.1.1.1)),
-)

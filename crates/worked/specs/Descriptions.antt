@@ -28,7 +28,7 @@ use Rattle.good.specs.View.{View, own_in, seen_after, receives}
 use Rattle.good.specs.Fresh.{fresh_view}
 use Rattle.peace.specs.Run.{Call, receive, lookup, Got, answered, shown, run, to, only}
 use Rattle.peace.specs.Alone.{lone, own_reaches, own_view, alone, Frugal}
-use Rattle.peace.specs.Peace.{as-fresh}
+use Rattle.peace.proofs.Peace.{as-fresh}
 
 -- ---- the calls and what they get
 -- the output lent

@@ -1,5 +1,4 @@
 pub mod Cut
-pub mod Parts
 pub mod Find
 pub mod Write
 pub mod Returns

@@ -2,7 +2,8 @@
 use native.Mathlib.Omega.{arith}
 use mathlib.Core.Path.{refl}
 use Rattle.laws.specs.Rows.{yes, no, lt, ge, eq, ne}
-use Rattle.boxes.specs.Step.{step_of, box-is}
+use Rattle.boxes.specs.Step.{step_of}
+use Rattle.boxes.proofs.Step.{box-is}
 use Rattle.boxes.proofs.step.Goals as goal
 
 pub returns : goal.returns

@@ -1,6 +1,6 @@
 -- `chart::eight` meets its contract: each return stands at the row that the lead byte tells. Assumes nothing.
 use native.Mathlib.Omega.{arith}
-use Rattle.text.specs.Finder.{by-chart, row-passed, row_told}
+use Rattle.text.proofs.Finder.{by-chart, row-passed, row_told}
 use Rattle.chart.proofs.eight.Goals as goal
 
 pub returns-then-leads : goal.returns-then-leads

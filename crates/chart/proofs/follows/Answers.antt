@@ -5,7 +5,8 @@ use mathlib.Core.Path.{◌≡◌, sym, ap, ◌∙◌}
 use mathlib.Core.Bool.{Bool, true, false}
 use Rattle.text.specs.declared.Range.{Range}
 use Rattle.text.specs.Chart.{◌to◌, within}
-use Rattle.text.specs.Ranges.{In, within_of, within-out, none, follows_is, follows_no}
+use Rattle.text.specs.Ranges.{In}
+use Rattle.text.proofs.Ranges.{within_of, within-out, none, follows_is, follows_no}
 use Rattle.chart.proofs.follows.Goals as goal
 
 -- a byte b that was read and looked at

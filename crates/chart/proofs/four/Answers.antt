@@ -1,6 +1,6 @@
 -- `chart::four` meets its contract: each return stands at the row that the lead byte tells. Assumes nothing.
 use native.Mathlib.Omega.{arith}
-use Rattle.text.specs.Finder.{row-passed, row_told, rows_end}
+use Rattle.text.proofs.Finder.{row-passed, row_told, rows_end}
 use Rattle.chart.proofs.four.Goals as goal
 
 pub returns-then-leads : goal.returns-then-leads

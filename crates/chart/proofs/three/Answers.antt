@@ -1,7 +1,7 @@
 -- `chart::three` meets its contract: each return stands at the row that the lead byte tells. Assumes nothing.
 use native.Mathlib.Omega.{arith}
 use mathlib.Core.Path.{◌∙◌}
-use Rattle.text.specs.Finder.{row-passed, row_told, rows-skipped}
+use Rattle.text.proofs.Finder.{row-passed, row_told, rows-skipped}
 use Rattle.chart.proofs.three.Goals as goal
 
 pub returns-then-is_past : goal.returns-then-is_past

@@ -3,7 +3,7 @@ use borrow.Author.Rules.{rules}
 use native.Mathlib.Omega.{arith}
 use lib.ListN.{length-append}
 use Rattle.writer.specs.Write.{caption}
-use Rattle.writer.specs.Cuts.{cut-empty, cut-many, counted}
+use Rattle.writer.proofs.Cuts.{cut-empty, cut-many, counted}
 use Rattle.cuts.proofs.write_cut.Statement.{statement}
 use Rattle.cuts.proofs.write_cut.Tie as tie
 

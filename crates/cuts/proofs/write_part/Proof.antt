@@ -4,8 +4,8 @@ use native.Mathlib.Omega.{arith}
 use mathlib.Core.Path.{refl}
 use lib.ListN.{length}
 use Rattle.writer.specs.Write.{caption}
-use Rattle.writer.specs.Returns.{writable}
-use Rattle.writer.specs.Cuts.{cut-none, cut-past, cut-string, cut-block}
+use Rattle.writer.proofs.Returns.{writable}
+use Rattle.writer.proofs.Cuts.{cut-none, cut-past, cut-string, cut-block}
 use Rattle.cuts.proofs.write_part.Statement.{statement}
 use Rattle.cuts.proofs.write_part.Tie as tie
 

@@ -1,7 +1,7 @@
 -- `describes::write_description` meets its contract: refusals 12, 13, 14, or the one payload. Assumes nothing.
 use borrow.Author.Rules.{rules}
 use mathlib.Core.Path.{sym, ◌∙◌}
-use Rattle.writer.specs.Returns.{described-12, described-13, described-14, described-payload}
+use Rattle.writer.proofs.Returns.{described-12, described-13, described-14, described-payload}
 use Rattle.describes.proofs.write_description.Statement.{statement}
 use Rattle.describes.proofs.write_description.Tie as tie
 

@@ -1,7 +1,7 @@
 -- `ends::finish` meets its contract: the count that is stored is at most sixteen. Assumes nothing.
 use Rattle.std.proofs.Common.{ℕ, ap, ◌∙◌, set, arith}
 use Rattle.finished.specs.Times.{marked_row, marked_used}
-use Rattle.finished.specs.Marks.{used-most}
+use Rattle.finished.proofs.Marks.{used-most}
 use Rattle.ends.proofs.finish.Goals as goal
 
 pub overflow_cast-used : goal.overflow_cast-used

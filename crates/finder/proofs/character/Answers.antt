@@ -4,7 +4,7 @@ use mathlib.Core.Path.{sym, ap, ◌∙◌}
 use lib.ListN.{drop}
 use Rattle.text.specs.Unicode.{character}
 use Rattle.text.specs.Laws.{all-behind}
-use Rattle.text.specs.Finder.{one_bit}
+use Rattle.text.proofs.Finder.{one_bit}
 use Rattle.finder.proofs.character.Goals as goal
 
 pub returns-then-u-eq0 : goal.returns-then-u-eq0

@@ -3,7 +3,7 @@ use mathlib.Core.Path.{refl, sym}
 use Rattle.laws.specs.Rows.{yes, no, and_is}
 use Rattle.text.specs.Chart.{◌to◌, within, paired}
 use Rattle.text.specs.Laws.{saw}
-use Rattle.text.specs.Finder.{by_units}
+use Rattle.text.proofs.Finder.{by_units}
 use Rattle.finder.proofs.sixteen.Goals as goal
 
 pub returns-then-within : goal.returns-then-within

@@ -2,7 +2,7 @@
 use Prim.Native.Nat.{◌+◌}
 use native.Mathlib.Omega.{arith}
 use mathlib.Core.Path.{sym}
-use Rattle.text.specs.Sixteen.{unit-is, unit-none}
+use Rattle.text.proofs.Sixteen.{unit-is, unit-none}
 use Rattle.finder.proofs.unit.Goals as goal
 
 pub returns-then-s-i : goal.returns-then-s-i

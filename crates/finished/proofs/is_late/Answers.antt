@@ -7,7 +7,8 @@ use mathlib.Core.List.{List}
 use lib.ListN.{length, get_or}
 use Rattle.laws.specs.Rows.{◌⇒◌⁏◌, ◌or◌}
 use Rattle.paper.specs.Limits.{finished_most}
-use Rattle.finished.specs.Times.{among, ahead, late-here, late-next, late-end}
+use Rattle.finished.specs.Times.{among, ahead}
+use Rattle.finished.proofs.Times.{late-here, late-next, late-end}
 use Rattle.finished.proofs.is_late.Goals as goal
 use Rattle.finished.proofs.is_late.Goals.{then-row-i, else-row-i}
 

@@ -6,7 +6,8 @@ use native.Mathlib.Numerals.{add-one}
 use mathlib.Core.Path.{refl, sym, ◌∙◌}
 use lib.ListN.{get_or, length-set, length-take, length-drop, length-append}
 use Rattle.laws.specs.Region.{sets-turn, sets-full}
-use Rattle.finished.specs.Times.{moved_row, down, still-ahead, moves-down, last-is}
+use Rattle.finished.specs.Times.{moved_row, down}
+use Rattle.finished.proofs.Times.{still-ahead, moves-down, last-is}
 use Rattle.finished.proofs.move_down.Goals as goal
 
 pub returns-then-n-eq0 : goal.returns-then-n-eq0

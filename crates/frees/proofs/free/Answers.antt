@@ -1,7 +1,7 @@
 -- `frees::free` meets its contract: whether i is below both says whether a place is closed. Assumes nothing.
 use Rattle.std.proofs.Common.{length, sym, ap, ◌∙◌, arith, slice_set}
 use Rattle.sample.specs.Place.{closed}
-use Rattle.table.specs.Stored.{stored-in, stored-out}
+use Rattle.table.proofs.Stored.{stored-in, stored-out}
 use Rattle.frees.proofs.Facts.{inside, outside}
 use Rattle.frees.proofs.free.Goals as goal
 

@@ -2,7 +2,7 @@
 use borrow.Author.Rules.{rules}
 use native.Mathlib.Omega.{arith}
 use Rattle.unit.specs.Head.{head-short}
-use Rattle.writer.specs.Returns.{lay-is}
+use Rattle.writer.proofs.Returns.{lay-is}
 use Rattle.lays.proofs.lay.Statement.{statement}
 use Rattle.lays.proofs.lay.Tie as tie
 

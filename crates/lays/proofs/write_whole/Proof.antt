@@ -2,7 +2,7 @@
 -- Assumes nothing.
 use borrow.Author.Rules.{rules}
 use lib.ListN.{length-append}
-use Rattle.writer.specs.Returns.{lay-more}
+use Rattle.writer.proofs.Returns.{lay-more}
 use Rattle.lays.proofs.write_whole.Statement.{statement}
 use Rattle.lays.proofs.write_whole.Tie as tie
 

@@ -4,7 +4,8 @@ use native.Mathlib.Omega.{arith}
 use mathlib.Core.Path.{refl}
 use borrow.Author.Rules.{rules}
 use lib.ListN.{length}
-use Rattle.writer.specs.Find.{Passed, passed_on, passed-all, next-inside, next-further}
+use Rattle.writer.specs.Find.{Passed}
+use Rattle.writer.proofs.Find.{passed_on, passed-all, next-inside, next-further}
 use Rattle.passes.proofs.find.Statement.{statement}
 use Rattle.passes.proofs.find.Tie as tie
 

@@ -4,7 +4,8 @@ use native.Mathlib.Omega.{arith}
 use mathlib.Core.Path.{sym, ap, ◌∙◌}
 use mathlib.Core.Bool.{Bool}
 use lib.ListN.{drop}
-use Rattle.text.specs.Runs.{seen, seen_none, seen_one, seen_other, seen_end}
+use Rattle.text.specs.Runs.{seen}
+use Rattle.text.proofs.Runs.{seen_none, seen_one, seen_other, seen_end}
 use Rattle.strings.proofs.ascii.Goals.{then-s-i-gt127, else-s-i-gt127}
 use Rattle.strings.proofs.ascii.Goals as goal
 

@@ -2,7 +2,7 @@
 use native.Mathlib.Omega.{arith}
 use mathlib.Core.Path.{refl, sym, ◌∙◌}
 use Rattle.text.specs.Unicode.{boundary}
-use Rattle.text.specs.Walk.{reach-on, reach-none, reach-over, reach-end}
+use Rattle.text.proofs.Walk.{reach-on, reach-none, reach-over, reach-end}
 use Rattle.strings.proofs.boundary.Goals as goal
 
 pub loop-e-init : goal.loop-e-init

@@ -1,8 +1,8 @@
 -- `strings::by_blocks` meets its contract. The invariant: to look at what is left is to look at all. Assumes nothing.
 use native.Mathlib.Omega.{arith}
 use mathlib.Core.Path.{refl, sym, ◌∙◌}
-use Rattle.text.specs.Walk.{well-end}
-use Rattle.text.specs.Runs.{block-there, block_on, block-not}
+use Rattle.text.proofs.Walk.{well-end}
+use Rattle.text.proofs.Runs.{block-there, block_on, block-not}
 use Rattle.strings.proofs.by_blocks.Goals as goal
 
 pub loop-i-init : goal.loop-i-init

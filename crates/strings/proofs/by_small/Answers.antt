@@ -1,7 +1,8 @@
 -- `strings::by_small` meets its contract. The invariant: to go on from here is to go from the start. Assumes nothing.
 use native.Mathlib.Omega.{arith}
 use mathlib.Core.Path.{refl, sym, ◌∙◌}
-use Rattle.text.specs.Runs.{walked_to, walk_end}
+use Rattle.text.specs.Runs.{walked_to}
+use Rattle.text.proofs.Runs.{walk_end}
 use Rattle.strings.specs.Steps.{small-not, small-on}
 use Rattle.strings.proofs.by_small.Goals as goal
 

@@ -1,7 +1,8 @@
 -- `strings::passed` meets its contract: the characters of a block of ASCII end with it. Assumes nothing.
 use native.Mathlib.Omega.{arith}
 use mathlib.Core.Path.{sym, ap, ◌∙◌}
-use Rattle.text.specs.Runs.{walked_to, block-end, block_within, ascii-walked}
+use Rattle.text.specs.Runs.{walked_to}
+use Rattle.text.proofs.Runs.{block-end, block_within, ascii-walked}
 use Rattle.strings.proofs.passed.Goals as goal
 
 pub overflow_add-to : goal.overflow_add-to

@@ -2,8 +2,9 @@
 use native.Mathlib.Omega.{arith}
 use mathlib.Core.Path.{refl, sym, ◌∙◌}
 use lib.ListN.{drop, length-drop}
-use Rattle.text.specs.Finder.{character-within}
-use Rattle.text.specs.Runs.{walked_to, walk-on, walk-not, walk_end}
+use Rattle.text.proofs.Finder.{character-within}
+use Rattle.text.specs.Runs.{walked_to}
+use Rattle.text.proofs.Runs.{walk-on, walk-not, walk_end}
 use Rattle.strings.proofs.walked.Goals as goal
 
 pub loop-i-init : goal.loop-i-init

@@ -4,8 +4,9 @@ use native.Mathlib.Omega.{arith}
 use mathlib.Core.Path.{sym, ap, ◌∙◌}
 use lib.ListN.{length}
 use Rattle.text.specs.Unicode.{well_formed}
-use Rattle.text.specs.Walk.{well-end}
-use Rattle.text.specs.Runs.{walked_to, walked-tells}
+use Rattle.text.proofs.Walk.{well-end}
+use Rattle.text.specs.Runs.{walked_to}
+use Rattle.text.proofs.Runs.{walked-tells}
 use Rattle.strings.proofs.well_formed.Goals as goal
 
 pub returns-then-u-eq0 : goal.returns-then-u-eq0

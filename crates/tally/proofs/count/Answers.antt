@@ -4,7 +4,7 @@ use mathlib.Core.Path.{◌≡◌, sym, ap₂, ◌∙◌}
 use mathlib.Core.Bool.{Bool, true, false}
 use mathlib.Core.List.{List}
 use Rattle.memory.specs.Relay.{recounted}
-use Rattle.memory.specs.Counted.{recounted-same}
+use Rattle.memory.proofs.Counted.{recounted-same}
 use Rattle.tally.proofs.count.Goals as goal
 
 -- what is said of a place that was and is so is said of this one

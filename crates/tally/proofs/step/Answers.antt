@@ -3,7 +3,7 @@ use Prim.Native.Nat.{ℕ}
 use mathlib.Core.Path.{◌≡◌, sym, ap, ◌∙◌}
 use mathlib.Core.Bool.{Bool, not}
 use Rattle.memory.specs.Relay.{stepped}
-use Rattle.memory.specs.Counted.{stepped_up, stepped-full, stepped_down}
+use Rattle.memory.proofs.Counted.{stepped_up, stepped-full, stepped_down}
 use Rattle.tally.proofs.step.Goals as goal
 
 -- what is said of a place that is so is said of this one

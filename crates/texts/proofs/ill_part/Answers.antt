@@ -1,5 +1,5 @@
 -- `texts::ill_part` meets its contract: a part of another TYPE has no text. Assumes nothing.
-use Rattle.unit.specs.Text.{string-ill, modifiers-not-ill}
+use Rattle.unit.proofs.Text.{string-ill, modifiers-not-ill}
 use Rattle.texts.proofs.ill_part.Goals as goal
 
 pub returns-then-w-eq2 : goal.returns-then-w-eq2

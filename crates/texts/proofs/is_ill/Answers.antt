@@ -1,6 +1,6 @@
 -- `texts::is_ill` meets its contract: a unit of no other kind has text. Assumes nothing.
 use mathlib.Core.Path.{refl, sym}
-use Rattle.unit.specs.Text.{bare-not-ill}
+use Rattle.unit.proofs.Text.{bare-not-ill}
 use Rattle.texts.proofs.is_ill.Goals as goal
 
 pub returns-in-Description : goal.returns-in-Description

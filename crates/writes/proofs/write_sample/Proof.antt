@@ -4,7 +4,7 @@ use native.Mathlib.Omega.{arith}
 use mathlib.Core.Path.{sym, ◌∙◌}
 use lib.ListN.{length, length-append}
 use Rattle.writer.specs.Write.{caption}
-use Rattle.writer.specs.Returns.{writable, returns-12, returns-none, returns-14, returns-payload, long-yes, long-no, whole-uncut, whole-count, whole-unit, whole-data}
+use Rattle.writer.proofs.Returns.{writable, returns-12, returns-none, returns-14, returns-payload, long-yes, long-no, whole-uncut, whole-count, whole-unit, whole-data}
 use Rattle.writes.proofs.write_sample.Statement.{statement}
 use Rattle.writes.proofs.write_sample.Tie as tie
 

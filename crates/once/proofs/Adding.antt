@@ -11,12 +11,13 @@ use Rattle.laws.specs.Region.{length_part}
 use Rattle.laws.specs.Sums.{sum, sum-gap, sum-front}
 use Rattle.paper.specs.Limits.{parts_most}
 use Rattle.joining.specs.Joining.{Piece, piece, together}
-use Rattle.text.specs.Strings.{well-formed}
+use Rattle.text.proofs.Strings.{well-formed}
 use Rattle.unit.specs.declared.Part as P
 use Rattle.writer.specs.Write.{Caption, sample, long, parts, uncut}
-use Rattle.writer.specs.Returns.{Writable, cut-count}
-use Rattle.writer.specs.Cutting.{parts-together}
-use Rattle.writer.specs.Payloads.{total}
+use Rattle.writer.specs.Returns.{Writable}
+use Rattle.writer.proofs.Returns.{cut-count}
+use Rattle.writer.proofs.Cutting.{parts-together}
+use Rattle.writer.proofs.Payloads.{total}
 use Rattle.sample.specs.declared.Place.{Place}
 use Rattle.sample.specs.Bits.{bit_of, bit-above}
 use Rattle.sample.specs.Place.{has, agrees, repeats, oversize, kept, kept_at, piece_at}
@@ -26,7 +27,8 @@ use Rattle.sample.specs.Missing.{is_kept, kept-has}
 use Rattle.sample.specs.Repeat.{agrees-is, repeat-of, repeat-is, kept_of}
 use Rattle.sample.specs.Told.{Name, name_of, Word, keep-named, keep-string, keep-modifiers}
 use Rattle.once.specs.Due.{with}
-use Rattle.once.specs.Keeping.{part_of, Bears, Gathered, few}
+use Rattle.once.specs.Keeping.{part_of, Bears, Gathered}
+use Rattle.once.proofs.Keeping.{few}
 
 sizes : (ps : List Piece) (n : ℕ) → length ps ≤ n → sum n (λ i. length (get_or ps i (piece 2 [])).bytes) ≡ length (together ps)
 unfolding flatten

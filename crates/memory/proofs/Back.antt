@@ -17,7 +17,7 @@ use Rattle.desk.specs.Desk.{Own}
 use Rattle.memory.specs.Table.{is_at}
 use Rattle.memory.specs.Relay.{Tables, tables, places_of, open_at, own_of, stands_at, placed, was_open, is_open, recounted, put_own}
 use Rattle.memory.specs.Relay.{put_back}
-use Rattle.memory.specs.Counted.{recounted-same, was-open}
+use Rattle.memory.proofs.Counted.{recounted-same, was-open}
 
 -- ---- no place is at an unknown time
 never : (a b : Bool) → (a and b and false) ≡ false

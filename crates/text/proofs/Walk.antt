@@ -3,13 +3,11 @@ use Rattle.std.specs.Prelude.{ℕ, zero, suc, ◌+◌, ◌-◌, ◌<◌, ◌≤�
 use Rattle.std.proofs.Common.{arith, sym, ap, ◌∙◌, length-drop, drop-drop}
 use Rattle.laws.specs.Rows.{◌⇒◌⁏◌, ◌<?◌, ◌=?◌, yes, no, lt, ge, eq, ne, ne_of, below}
 use Rattle.text.specs.Unicode.{character, well_within, well_formed, reach_within, reach}
-use Rattle.text.specs.Finder.{character-within}
+use Rattle.text.proofs.Finder.{character-within}
 
 -- behind a character less is left
 pub behind : (U : ℕ) (s : List ℕ) (n : ℕ) → length s ≤ suc n → (character U s =? 0) ≡ false → length (drop (character U s) s) ≤ n
 behind U s n h k = let q = ne_of _ _ k in simp length-drop (omega arith)
-
--- ---- whether a string is well-formed
 
 -- as many turns as there are bytes are enough
 well-fuel : (n m U : ℕ) (s : List ℕ) → length s ≤ n → length s ≤ m → well_within n U s ≡ well_within m U s
@@ -46,8 +44,6 @@ module _ (U : ℕ) (s : List ℕ) (i k : ℕ) (found : k ≡ character U (drop i
 
 pub well-end : (U : ℕ) (s : List ℕ) (i : ℕ) → length s ≤ i → true ≡ well_formed U (drop i s)
 well-end U s i h = rw (well-turn U (drop i s)) (yes _ _ (eq _ _ (omega (arith, length-drop i s))) refl)
-
--- ---- how far whole characters reach
 
 -- as many turns as there are bytes are enough
 reach-fuel : (n m U : ℕ) (s : List ℕ) (limit : ℕ) → length s ≤ n → length s ≤ m → reach_within n U s limit ≡ reach_within m U s limit

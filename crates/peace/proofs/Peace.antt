@@ -8,7 +8,8 @@ use Rattle.good.specs.Good.{Good, set-up-good}
 use Rattle.good.specs.View.{View, view}
 use Rattle.good.specs.Fresh.{fresh_view, set-up-view}
 use Rattle.peace.specs.Run.{Call, caller, run, to, only, Modest}
-use Rattle.peace.specs.Alone.{alone, Frugal, modest-frugal, frugal-modest, as-frugal}
+use Rattle.peace.specs.Alone.{alone, Frugal}
+use Rattle.peace.proofs.Alone.{modest-frugal, frugal-modest, as-frugal}
 
 -- Two runs, from good tables of which desk d sees the same. If its calls are the same in both, and it is modest in the one, it gets the
 -- same in both, and it is modest in the other.

@@ -21,7 +21,8 @@ use Rattle.unit.specs.declared.Part as P
 use Rattle.unit.specs.declared.Unit as U
 use Rattle.unit.specs.declared.Unit.TheVariants.{End, Skipped, Refused, Whole, Part, Description}
 use Rattle.unit.specs.Layout.{read_of, data_of}
-use Rattle.unit.specs.Reads.{ByReader, read-by-reader, Counts, Counted, reads-counted}
+use Rattle.unit.specs.Reads.{ByReader, Counts, Counted}
+use Rattle.unit.proofs.Readings.{read-by-reader, reads-counted}
 use Rattle.sample.specs.declared.Place.{Place}
 use Rattle.sample.specs.Place.{bare, closed, missing, pieces_of, kept, oversize}
 use Rattle.sample.specs.Arrival.{in_order, or_blank}
@@ -33,12 +34,13 @@ use Rattle.style.specs.Store as S
 use Rattle.desk.specs.declared.Shares.{Shares}
 use Rattle.desk.specs.Desk.{Own, After, Given, refuse, facts, whole_taken, sample_of, conflicts, completed, joining, description_taken}
 use Rattle.desk.specs.Desk.{taken, received, given_up}
-use Rattle.desk.specs.Effects.{not-ten, at-times}
+use Rattle.desk.proofs.Effects.{not-ten, at-times}
 use Rattle.memory.specs.Relay.{ordered as in-turn, yielded}
 use Rattle.joined.specs.Ledger.{Entry, Parts, adding, entered, entered_by, given_up_by, is_entered, entered_piece, in_this_order}
 use Rattle.joined.specs.Ledger.{different, Complete, Tell, KeptSays, JoinedSays, SaysPart, NoPart, Early, SaysUnit}
-use Rattle.joined.specs.Tallies.{Tallies, closed-tallies, sample-tallies, missing-different, none-missing, pieces-in-order}
-use Rattle.joined.specs.Tallies.{total-stays, sdur-stays, not_entered, kept-tallies}
+use Rattle.joined.specs.Tallies.{Tallies}
+use Rattle.joined.proofs.Tallies.{closed-tallies, sample-tallies, missing-different, none-missing, pieces-in-order}
+use Rattle.joined.proofs.Tallies.{total-stays, sdur-stays, not_entered, kept-tallies}
 
 -- ---- what a complete place that tallies says
 module _ (p : Place) (E : Parts) (t : Tallies p E) (TOTAL : ℕ) (e : p.total ≡ TOTAL) where

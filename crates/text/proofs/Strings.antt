@@ -4,9 +4,9 @@ use Rattle.std.specs.Prelude.{ℕ, zero, suc, ◌<◌, ◌≤◌, ◌≡◌, ref
 use Rattle.std.proofs.Common.{arith, sym, ap, ◌∙◌, append_assoc, append-nil, length-append, take-append-drop, drop_at}
 use Rattle.laws.specs.Rows.{no, ne, eq_of, ne_of, each, and-of, and_is}
 use Rattle.text.specs.Unicode.{scalar, encoded, character, encodings, scalars, WellFormed, well_within, well_formed}
-use Rattle.text.specs.Encoding.{encoded-sized}
-use Rattle.text.specs.Finder.{finder-sound, finder-complete}
-use Rattle.text.specs.Walk.{behind, well-turn}
+use Rattle.text.proofs.Encoding.{encoded-sized}
+use Rattle.text.proofs.Finder.{finder-sound, finder-complete}
+use Rattle.text.proofs.Walk.{behind, well-turn}
 
 -- the character in front is passed over
 well-step : (U c : ℕ) (rest : List ℕ) → scalar c ≡ true → well_formed U (encoded U c ++ rest) ≡ well_formed U rest
@@ -27,8 +27,6 @@ well-past U [] rest good = refl
 well-past U (c ∷ cs) rest good =
     let g = and-of _ _ good in
     rw append_assoc (well-step U c (encodings U cs ++ rest) g.0 ∙ well-past U cs rest g.1)
-
--- ---- the walk finds exactly the well-formed strings
 
 pub empty-well : (U : ℕ) (s : List ℕ) → length s ≡ 0 → WellFormed U s
 unfolding encodings scalars
@@ -65,8 +63,6 @@ pub well-found : (U : ℕ) (s : List ℕ) → WellFormed U s → well_formed U s
 unfolding well_formed well_within
 well-found U s w =
     ap (well_formed U) (w.same ∙ sym (append-nil (encodings U w.values))) ∙ well-past U w.values [] w.good
-
--- ---- strings joined and cut
 
 pub behind-well : (U : ℕ) (a b : List ℕ) → WellFormed U a → well_formed U (a ++ b) ≡ well_formed U b
 behind-well U a b w = ap (λ (x : List ℕ). well_formed U (x ++ b)) w.same ∙ well-past U w.values b w.good

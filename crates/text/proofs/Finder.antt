@@ -9,11 +9,12 @@ use Rattle.text.specs.declared.Row.{Row}
 use Rattle.text.specs.Chart.{chart, within, follows, charted, paired}
 use Rattle.text.specs.Unicode.{scalar, utf8, utf16, encoded, character}
 use Rattle.text.specs.Laws.{saw}
-use Rattle.text.specs.Encoding.{encoded-sized}
-use Rattle.text.specs.Ranges.{within-not}
-use Rattle.text.specs.Front.{Front, exactly}
-use Rattle.text.specs.Eight.{chart-sound, chart-complete}
-use Rattle.text.specs.Sixteen.{paired-sound, paired-complete}
+use Rattle.text.proofs.Encoding.{encoded-sized}
+use Rattle.text.proofs.Ranges.{within-not}
+use Rattle.text.specs.Front.{Front}
+use Rattle.text.proofs.Front.{exactly}
+use Rattle.text.proofs.Eight.{chart-sound, chart-complete}
+use Rattle.text.proofs.Sixteen.{paired-sound, paired-complete}
 
 -- where the finder finds something, s begins with the encoding of a scalar value, which is as long as the finder says
 pub finder-sound : (U : ℕ) (s : List ℕ) → 0 < character U s → Front (encoded U) s (character U s)
@@ -52,8 +53,6 @@ character-within U s = go (character U s) refl
 -- so a place behind what is found there lies within the bytes too
 pub character-at : (U : ℕ) (s : List ℕ) (at : ℕ) → at ≤ length s → at + character U (drop at s) ≤ length s
 character-at U s at h = omega (arith, character-within U (drop at s), length-drop at s)
-
--- ---- for the code: which of the two rules is asked
 
 module _ (n : ℕ) (s : List ℕ) where
   pub by-chart : n ≡ charted chart s → n ≡ character 0 s

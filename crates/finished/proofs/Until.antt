@@ -6,7 +6,8 @@ use Rattle.std.proofs.lemmas.List.{drop-append-le}
 use Rattle.laws.specs.Rows.{each, yes, eq, eq_of, or-of}
 use Rattle.paper.specs.Limits.{finished_most}
 use Rattle.finished.specs.Times.{times_of, among, late, marked_row, marked_used}
-use Rattle.finished.specs.Marks.{row_after, used_after, marked-times, marked_all}
+use Rattle.finished.specs.Marks.{row_after, used_after}
+use Rattle.finished.proofs.Marks.{marked-times, marked_all}
 
 -- ---- a number among others
 among_in : (xs : List ℕ) (time : ℕ) (ys : List ℕ) → among (xs ++ (time ∷ ys)) time ≡ true

@@ -1,0 +1,4 @@
+pub mod Joined
+pub mod Right
+pub mod Strings
+pub mod Tallies

@@ -1,0 +1,5 @@
+pub mod Alone
+pub mod Always
+pub mod Exactly
+pub mod Peace
+pub mod Walked

@@ -1,0 +1,11 @@
+pub mod Boundary
+pub mod Eight
+pub mod Encoding
+pub mod Finder
+pub mod Front
+pub mod Numbers
+pub mod Ranges
+pub mod Runs
+pub mod Sixteen
+pub mod Strings
+pub mod Walk

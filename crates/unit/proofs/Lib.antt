@@ -1,0 +1,5 @@
+pub mod Again
+pub mod Converse
+pub mod Exactly
+pub mod Readings
+pub mod Text
