@@ -1,12 +1,12 @@
 -- What every call of a desk keeps to: the effect of a refusal, progress, the missing count, and what the common use can change.
 -- Assumes nothing.
-use Rattle.std.specs.Prelude.{ℕ, ◌≤◌, ◌<◌, ◌≡◌, refl, Bool, true, false, not, List, length, set}
+use Rattle.std.specs.Prelude.{ℕ, ◌≤◌, ◌<◌, ◌≡◌, refl, true, not, List, length}
 use Rattle.std.proofs.Common.{arith, sym, ap, ◌∙◌}
 use Rattle.std.proofs.lemmas.List.Edits.{sets}
 use Rattle.std.proofs.lemmas.List.{set-get_or}
-use Rattle.laws.specs.Rows.{◌⇒◌⁏◌, each, yes, no, lt, ge-of, below}
+use Rattle.laws.specs.Rows.{each, yes, no, lt, ge-of, below}
 use Rattle.paper.specs.Limits.{own_places}
-use Rattle.paper.specs.Words.{number_of, kind_of, by_time}
+use Rattle.paper.specs.Words.{number_of, kind_of}
 use Rattle.paper.specs.declared.Refusal.{Refusal}
 use Rattle.paper.specs.declared.Refusal.TheVariants as R
 use Rattle.paper.specs.declared.Time.{Time}
@@ -22,13 +22,12 @@ use Rattle.unit.specs.Layout.{read_of, data_of}
 use Rattle.unit.specs.Reads.{refusal_of, ByReader}
 use Rattle.unit.proofs.Readings.{reads-uses, other-number, read-by-reader, by_number}
 use Rattle.sample.specs.declared.Place.{Place}
-use Rattle.sample.specs.Place.{closed, repeats, oversize, kept, missing, pieces_of}
-use Rattle.joining.specs.Joining.{together, string_of, sound}
+use Rattle.sample.specs.Place.{kept, missing}
 use Rattle.paper.specs.declared.Facts.{Facts}
 use Rattle.style.specs.Store.{noted}
 use Rattle.style.specs.Store as S
 use Rattle.desk.specs.declared.Shares.{Shares}
-use Rattle.desk.specs.Desk.{Own, After, own, says, refuse, finish, is_late, newest_of, facts, whole_taken, sample_of, conflicts, six}
+use Rattle.desk.specs.Desk.{Own, After, says, refuse, newest_of, facts, whole_taken, six}
 use Rattle.desk.specs.Desk.{used_up, completed, joining, description_taken, timed, taken, received}
 use Rattle.desk.specs.Effects.{Effect, described_by, refusal_number, Regular, Other, Uses, asks_part, asks, Handed}
 
