@@ -1,5 +1,5 @@
 -- A unit of one desk that is no part: what it is answered, whatever the shares are. Assumes nothing.
-use Rattle.std.specs.Prelude.{ℕ, ◌≡◌, refl, true, false, List}
+use Rattle.std.specs.Prelude.{ℕ, ◌≡◌, refl, false, List}
 use Rattle.std.proofs.Common.{sym, ap, ◌∙◌, true≢false}
 use Rattle.laws.specs.Rows.{yes, no}
 use Rattle.paper.specs.declared.Time.{Time}
