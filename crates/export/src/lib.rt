@@ -1,4 +1,5 @@
-// The relay for C and Rust: numbers and slices only. An answer goes as numbers into a lent row.
+// The relay for C and Rust: numbers and slices only. An answer goes as numbers into a lent row. `export_c` has each of these calls by its
+// name in C.
 #![tactic(auto)]
 
 ghost use Rattle.std.specs.Prelude.{◌≡◌, length, drop};
@@ -19,61 +20,53 @@ use paper::limits::SAMPLE_MOST;
 use sample::Place;
 
 // The bytes of a place.
-#[unsafe(no_mangle)]
-pub extern "C" fn spindlefig_place_size() -> usize
+pub fn spindlefig_place_size() -> usize
     ensures { result ≡ place_size }
 {
     sizes::place()
 }
 
 // The least output that receive takes; it holds any sample.
-#[unsafe(no_mangle)]
-pub extern "C" fn spindlefig_output() -> usize
+pub fn spindlefig_output() -> usize
     ensures { result ≡ sample_most }
 {
     SAMPLE_MOST
 }
 
 // The numbers that hold the row of any answer.
-#[unsafe(no_mangle)]
-pub extern "C" fn spindlefig_row() -> usize
+pub fn spindlefig_row() -> usize
     ensures { result ≡ row_most }
 {
     10
 }
 
 // What n desks need, in elements; 0 where n is not 1 to 8.
-#[unsafe(no_mangle)]
-pub extern "C" fn spindlefig_places(n: usize) -> usize
+pub fn spindlefig_places(n: usize) -> usize
     ensures { result ≡ needed places n }
 {
     sizes::places(n)
 }
 
-#[unsafe(no_mangle)]
-pub extern "C" fn spindlefig_rows(n: usize) -> usize
+pub fn spindlefig_rows(n: usize) -> usize
     ensures { result ≡ needed rows_need n }
 {
     sizes::rows(n)
 }
 
-#[unsafe(no_mangle)]
-pub extern "C" fn spindlefig_marks(n: usize) -> usize
+pub fn spindlefig_marks(n: usize) -> usize
     ensures { result ≡ needed marks_need n }
 {
     sizes::marks(n)
 }
 
-#[unsafe(no_mangle)]
-pub extern "C" fn spindlefig_stores(n: usize) -> usize
+pub fn spindlefig_stores(n: usize) -> usize
     ensures { result ≡ needed stores_need n }
 {
     sizes::stores(n)
 }
 
 // Makes what n desks need fresh. Answers 0, or 1 where it is refused.
-#[unsafe(no_mangle)]
-pub extern "C" fn spindlefig_set_up(
+pub fn spindlefig_set_up(
     n: usize,
     places: &mut [Place],
     rows: &mut [u32],
@@ -88,8 +81,7 @@ pub extern "C" fn spindlefig_set_up(
 
 // Takes the unit at the front of the rest, at the running time: unknown where `known` is 0, and `time` is not looked at. Answers the bytes
 // used; the row gets all of the answer.
-#[unsafe(no_mangle)]
-pub extern "C" fn spindlefig_receive(
+pub fn spindlefig_receive(
     places: &mut [Place],
     rows: &mut [u32],
     marks: &mut [u32],
@@ -109,8 +101,7 @@ pub extern "C" fn spindlefig_receive(
 }
 
 // Gives a desk's open sample up. Answers 0, or the refusal.
-#[unsafe(no_mangle)]
-pub extern "C" fn spindlefig_give_up(
+pub fn spindlefig_give_up(
     places: &mut [Place],
     rows: &mut [u32],
     marks: &mut [u32],
@@ -125,8 +116,7 @@ pub extern "C" fn spindlefig_give_up(
 }
 
 // Writes the description that an index shows to the front of the output, and answers its length; 0 where there is none.
-#[unsafe(no_mangle)]
-pub extern "C" fn spindlefig_lookup<'a>(
+pub fn spindlefig_lookup<'a>(
     marks: &[u32],
     stores: &'a [u8],
     desk: usize,
@@ -144,16 +134,14 @@ pub extern "C" fn spindlefig_lookup<'a>(
 }
 
 // Checks a style book.
-#[unsafe(no_mangle)]
-pub extern "C" fn spindlefig_check(book: &[u8], row: &mut [u64])
+pub fn spindlefig_check(book: &[u8], row: &mut [u64])
     ensures { row.new ≡ sets row.old 0 (checked_row (check_of book.now)) }
 {
     numbers::put_checked(row, book::check(book));
 }
 
 // Writes payload k of a sample.
-#[unsafe(no_mangle)]
-pub extern "C" fn spindlefig_write(
+pub fn spindlefig_write(
     u: usize,
     sidx: usize,
     sdur: usize,
@@ -175,8 +163,7 @@ pub extern "C" fn spindlefig_write(
 }
 
 // Writes the payload of a description.
-#[unsafe(no_mangle)]
-pub extern "C" fn spindlefig_describe(
+pub fn spindlefig_describe(
     sidx: usize,
     d: &[u8],
     m: usize,
@@ -191,8 +178,7 @@ pub extern "C" fn spindlefig_describe(
 }
 
 // What stands at a place of the modifiers. A box's contents are the bytes from its place and 8 on, up to the next place.
-#[unsafe(no_mangle)]
-pub extern "C" fn spindlefig_box(modifiers: &[u8], at: usize, row: &mut [u64])
+pub fn spindlefig_box(modifiers: &[u8], at: usize, row: &mut [u64])
     ensures { row.new
         ≡ sets row.old 0
         (stepped_row (step_of modifiers.now at).next (step_of modifiers.now at).found) }
@@ -203,16 +189,14 @@ pub extern "C" fn spindlefig_box(modifiers: &[u8], at: usize, row: &mut [u64])
 }
 
 // The length of the character at a place, and 0 where none is well-formed.
-#[unsafe(no_mangle)]
-pub extern "C" fn spindlefig_character(u: usize, s: &[u8], at: usize) -> usize
+pub fn spindlefig_character(u: usize, s: &[u8], at: usize) -> usize
     ensures { result ≡ character u (drop at s.now) }
 {
     finder::character(u, s, at)
 }
 
 // Whether all of s is well-formed.
-#[unsafe(no_mangle)]
-pub extern "C" fn spindlefig_well_formed(u: usize, s: &[u8]) -> bool
+pub fn spindlefig_well_formed(u: usize, s: &[u8]) -> bool
     ensures { result ≡ well_formed u s.now }
 {
     strings::well_formed(u, s)

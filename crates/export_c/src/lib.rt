@@ -1,0 +1,208 @@
+// The calls of `export` by their names in C, each with the clauses of the call that it makes: the static library that C and Rust link.
+#![tactic(auto)]
+
+ghost use Rattle.std.specs.Prelude.{◌≡◌, length, drop};
+ghost use Rattle.std.proofs.lemmas.List.Edits.{sets};
+ghost use Rattle.paper.specs.Limits.{sample_most, places, rows_need, marks_need, stores_need};
+ghost use Rattle.memory.specs.Relay.{looked_up};
+ghost use Rattle.memory.specs.Lent.{lent, lent_three};
+ghost use Rattle.style.specs.Book.{check_of};
+ghost use Rattle.boxes.specs.Step.{step_of};
+ghost use Rattle.text.specs.Unicode.{character, well_formed};
+ghost use Rattle.writer.specs.Write.{caption, written, described};
+ghost use Rattle.numbers.specs.Numbers.{checked_row, stepped_row, name_of, sent_by};
+ghost use Rattle.answers.specs.Answers.{row_most};
+ghost use Rattle.sizes.specs.Sizes.{place_size, needed};
+ghost use Rattle.export.specs.Export.{SetsUpAs, ReceivesAs, GivesUpAs, wrote, written_as};
+
+use sample::Place;
+
+// The bytes of a place.
+#[unsafe(no_mangle)]
+pub extern "C" fn spindlefig_place_size() -> usize
+    ensures { result ≡ place_size }
+{
+    export::spindlefig_place_size()
+}
+
+// The least output that receive takes; it holds any sample.
+#[unsafe(no_mangle)]
+pub extern "C" fn spindlefig_output() -> usize
+    ensures { result ≡ sample_most }
+{
+    export::spindlefig_output()
+}
+
+// The numbers that hold the row of any answer.
+#[unsafe(no_mangle)]
+pub extern "C" fn spindlefig_row() -> usize
+    ensures { result ≡ row_most }
+{
+    export::spindlefig_row()
+}
+
+// What n desks need, in elements; 0 where n is not 1 to 8.
+#[unsafe(no_mangle)]
+pub extern "C" fn spindlefig_places(n: usize) -> usize
+    ensures { result ≡ needed places n }
+{
+    export::spindlefig_places(n)
+}
+
+#[unsafe(no_mangle)]
+pub extern "C" fn spindlefig_rows(n: usize) -> usize
+    ensures { result ≡ needed rows_need n }
+{
+    export::spindlefig_rows(n)
+}
+
+#[unsafe(no_mangle)]
+pub extern "C" fn spindlefig_marks(n: usize) -> usize
+    ensures { result ≡ needed marks_need n }
+{
+    export::spindlefig_marks(n)
+}
+
+#[unsafe(no_mangle)]
+pub extern "C" fn spindlefig_stores(n: usize) -> usize
+    ensures { result ≡ needed stores_need n }
+{
+    export::spindlefig_stores(n)
+}
+
+// Makes what n desks need fresh. Answers 0, or 1 where it is refused.
+#[unsafe(no_mangle)]
+pub extern "C" fn spindlefig_set_up(
+    n: usize,
+    places: &mut [Place],
+    rows: &mut [u32],
+    marks: &mut [u32],
+    stores: &mut [u8],
+) -> usize
+    ensures { SetsUpAs n (lent places rows marks stores) result }
+{
+    export::spindlefig_set_up(n, places, rows, marks, stores)
+}
+
+// Takes the unit at the front of the rest, at the running time: unknown where `known` is 0, and `time` is not looked at. Answers the bytes
+// used; the row gets all of the answer.
+#[unsafe(no_mangle)]
+pub extern "C" fn spindlefig_receive(
+    places: &mut [Place],
+    rows: &mut [u32],
+    marks: &mut [u32],
+    stores: &mut [u8],
+    desk: usize,
+    known: usize,
+    time: u32,
+    rest: &[u8],
+    out: &mut [u8],
+    row: &mut [u64],
+) -> usize
+    ensures { ReceivesAs (lent places rows marks stores) (sent_by desk known time) rest out row result }
+{
+    export::spindlefig_receive(
+        places, rows, marks, stores, desk, known, time, rest, out, row,
+    )
+}
+
+// Gives a desk's open sample up. Answers 0, or the refusal.
+#[unsafe(no_mangle)]
+pub extern "C" fn spindlefig_give_up(
+    places: &mut [Place],
+    rows: &mut [u32],
+    marks: &mut [u32],
+    desk: usize,
+    time: u32,
+) -> usize
+    ensures { GivesUpAs (lent_three places rows marks) (name_of desk time) result }
+{
+    export::spindlefig_give_up(places, rows, marks, desk, time)
+}
+
+// Writes the description that an index shows to the front of the output, and answers its length; 0 where there is none.
+#[unsafe(no_mangle)]
+pub extern "C" fn spindlefig_lookup<'a>(
+    marks: &[u32],
+    stores: &'a [u8],
+    desk: usize,
+    index: usize,
+    book: &'a [u8],
+    out: &mut [u8],
+) -> usize
+    ensures { (result ≡ length (looked_up marks.now stores.now desk index book.now))
+        × (out.new ≡ sets out.old 0
+        (looked_up marks.now stores.now desk index book.now)) }
+{
+    export::spindlefig_lookup(marks, stores, desk, index, book, out)
+}
+
+// Checks a style book.
+#[unsafe(no_mangle)]
+pub extern "C" fn spindlefig_check(book: &[u8], row: &mut [u64])
+    ensures { row.new ≡ sets row.old 0 (checked_row (check_of book.now)) }
+{
+    export::spindlefig_check(book, row)
+}
+
+// Writes payload k of a sample.
+#[unsafe(no_mangle)]
+pub extern "C" fn spindlefig_write(
+    u: usize,
+    sidx: usize,
+    sdur: usize,
+    string: &[u8],
+    modifiers: &[u8],
+    m: usize,
+    k: usize,
+    out: &mut [u8],
+    row: &mut [u64],
+)
+    ensures { wrote out.new row.new
+        ≡ written_as (written (caption u sidx sdur string.now modifiers.now) m k out.old)
+        row.old }
+{
+    export::spindlefig_write(u, sidx, sdur, string, modifiers, m, k, out, row)
+}
+
+// Writes the payload of a description.
+#[unsafe(no_mangle)]
+pub extern "C" fn spindlefig_describe(
+    sidx: usize,
+    d: &[u8],
+    m: usize,
+    k: usize,
+    out: &mut [u8],
+    row: &mut [u64],
+)
+    ensures { wrote out.new row.new
+        ≡ written_as (described sidx d.now m k out.old) row.old }
+{
+    export::spindlefig_describe(sidx, d, m, k, out, row)
+}
+
+// What stands at a place of the modifiers. A box's contents are the bytes from its place and 8 on, up to the next place.
+#[unsafe(no_mangle)]
+pub extern "C" fn spindlefig_box(modifiers: &[u8], at: usize, row: &mut [u64])
+    ensures { row.new
+        ≡ sets row.old 0
+        (stepped_row (step_of modifiers.now at).next (step_of modifiers.now at).found) }
+{
+    export::spindlefig_box(modifiers, at, row)
+}
+
+// The length of the character at a place, and 0 where none is well-formed.
+#[unsafe(no_mangle)]
+pub extern "C" fn spindlefig_character(u: usize, s: &[u8], at: usize) -> usize
+    ensures { result ≡ character u (drop at s.now) }
+{
+    export::spindlefig_character(u, s, at)
+}
+
+// Whether all of s is well-formed.
+#[unsafe(no_mangle)]
+pub extern "C" fn spindlefig_well_formed(u: usize, s: &[u8]) -> bool
+    ensures { result ≡ well_formed u s.now }
+{
+    export::spindlefig_well_formed(u, s)
+}
