@@ -13,7 +13,7 @@ use Rattle.boxes.specs.declared.Found.{Found}
 use Rattle.boxes.specs.declared.Found.TheVariants.{End, Box}
 use Rattle.boxes.specs.declared.Stepped.{Stepped}
 use Rattle.boxes.specs.Step.{header_size, size_at, type_at, finds, step_of, contents_of, Says}
-use Rattle.boxes.proofs.Step.{box-is, contents-is, step-says}
+use Rattle.boxes.proofs.Stepping.{box-is, contents-is, step-says}
 use Rattle.boxes.specs.Walk.{Shown, Walk, onward, walk_of, walk}
 use Rattle.boxes.specs.Again.{box_of, numbers32, Put, boxes_of, shown_of, walked_as}
 

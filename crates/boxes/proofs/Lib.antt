@@ -1,3 +1,3 @@
 pub mod Again
-pub mod Step
+pub mod Stepping
 pub mod Walk

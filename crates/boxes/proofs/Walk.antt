@@ -7,7 +7,7 @@ use Rattle.paper.specs.declared.Refusal.TheVariants as R
 use Rattle.boxes.specs.declared.Found.{Found}
 use Rattle.boxes.specs.declared.Found.TheVariants.{End, Box, Refused}
 use Rattle.boxes.specs.Step.{header_size, size_at, step_of, contents_of, Says}
-use Rattle.boxes.proofs.Step.{contents-is, step-says, further}
+use Rattle.boxes.proofs.Stepping.{contents-is, step-says, further}
 use Rattle.boxes.specs.Walk.{shown, Walk, onward, walk_of, walk, together, Stops}
 
 -- ---- a walk that reaches the end has shown all of the modifiers

@@ -1,7 +1,7 @@
 -- `boxes::contents` meets its contract: in each arm the step found that variant. Assumes nothing.
 use native.Mathlib.Omega.{arith}
 use mathlib.Core.Path.{◌∙◌}
-use Rattle.boxes.proofs.Step.{contents-is, further}
+use Rattle.boxes.proofs.Stepping.{contents-is, further}
 use Rattle.boxes.proofs.contents.Goals as goal
 
 pub overflow_add-at : goal.overflow_add-at

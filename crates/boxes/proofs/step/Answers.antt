@@ -3,7 +3,7 @@ use native.Mathlib.Omega.{arith}
 use mathlib.Core.Path.{refl}
 use Rattle.laws.specs.Rows.{yes, no, lt, ge, eq, ne}
 use Rattle.boxes.specs.Step.{step_of}
-use Rattle.boxes.proofs.Step.{box-is}
+use Rattle.boxes.proofs.Stepping.{box-is}
 use Rattle.boxes.proofs.step.Goals as goal
 
 pub returns : goal.returns
