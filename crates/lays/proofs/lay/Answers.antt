@@ -1,7 +1,7 @@
 -- `lays::lay` meets its contract: the header is stored, and the data behind it. Assumes nothing.
 use native.Mathlib.Omega.{arith}
 use Rattle.unit.specs.Head.{head-short}
-use Rattle.writer.specs.Returns.{lay-is}
+use Rattle.writer.proofs.Returns.{lay-is}
 use Rattle.lays.proofs.lay.Goals as goal
 
 pub returns : goal.returns

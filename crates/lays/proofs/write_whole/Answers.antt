@@ -1,7 +1,7 @@
 -- `lays::write_whole` meets its contract: the string is laid down with the header, and the modifiers behind it.
 -- Assumes nothing.
 use lib.ListN.{length-append}
-use Rattle.writer.specs.Returns.{lay-more}
+use Rattle.writer.proofs.Returns.{lay-more}
 use Rattle.lays.proofs.write_whole.Goals as goal
 
 pub returns : goal.returns

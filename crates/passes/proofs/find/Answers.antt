@@ -1,7 +1,7 @@
 -- `passes::find` meets its contract. The invariant: to pass over what is left is to pass over all. Assumes nothing.
 use native.Mathlib.Omega.{arith}
 use mathlib.Core.Path.{refl}
-use Rattle.writer.specs.Find.{passed_on, passed-all, next-inside, next-further}
+use Rattle.writer.proofs.Find.{passed_on, passed-all, next-inside, next-further}
 use Rattle.passes.proofs.find.Goals as goal
 
 pub loop-e-init : goal.loop-e-init

@@ -1,0 +1,28 @@
+-- `describes::write_description` meets its contract: refusals 12, 13, 14, or the one payload. Assumes nothing.
+use mathlib.Core.Path.{sym, ◌∙◌}
+use Rattle.writer.proofs.Returns.{described-12, described-13, described-14, described-payload}
+use Rattle.describes.proofs.write_description.Goals as goal
+
+pub returns-then-is_undescribed : goal.returns-then-is_undescribed
+returns-then-is_undescribed c =
+    let a = c.args in
+    described-12 a.sidx a.d.now a.m a.number a.out.now (sym c.is_undescribed.ensures ∙ c.if-is_undescribed.true)
+
+pub returns-then-m-d : goal.returns-then-m-d
+returns-then-m-d c =
+    let a = c.args in
+    described-13 a.sidx a.d.now a.m a.number a.out.now (sym c.is_undescribed.ensures ∙ c.if-is_undescribed.false)
+    c.if-m-d.true
+
+pub returns-then-number-eq1 : goal.returns-then-number-eq1
+returns-then-number-eq1 c =
+    let a = c.args in
+    described-payload a.sidx a.d.now a.m a.number a.out.now
+    (sym c.is_undescribed.ensures ∙ c.if-is_undescribed.false)
+    c.if-m-d.false c.if-number-eq1.true _ _ c.lay-len.ensures
+
+pub returns : goal.returns
+returns c =
+    let a = c.args in
+    described-14 a.sidx a.d.now a.m a.number a.out.now
+    (sym c.is_undescribed.ensures ∙ c.if-is_undescribed.false) c.if-m-d.false c.if-number-eq1.false
