@@ -14,9 +14,9 @@ use Rattle.paper.specs.declared.Time.TheVariants.{Known}
 use Rattle.sample.specs.declared.Place.{Place}
 use Rattle.style.specs.Shown.{shown}
 use Rattle.desk.specs.Desk.{Own, After, Given, own, newest_of}
-use Rattle.memory.specs.Relay.{Tables, tables, desks_of, places_of, row_of, marks_of, store_of, open_at, own_of, shares_of, stored_shares}
+use Rattle.memory.specs.Relay.{Tables, desks_of, places_of, row_of, marks_of, store_of, open_at, own_of, shares_of, stored_shares}
 use Rattle.memory.specs.Relay.{placed, was_open, is_open, put_own, put_back, stranger, short, lacks_three, lacks, lacking, ordered}
-use Rattle.memory.specs.Relay.{Done, done, settled, received_among, received_at, Released, released, yielded, returned}
+use Rattle.memory.specs.Relay.{settled, received_among, received_at, yielded, returned}
 use Rattle.memory.specs.Relay.{given_up_among, given_up_at, looked_up_among, looked_up}
 use Rattle.memory.proofs.Back.{own_same, put_same}
 use Rattle.good.specs.Counts.{recounted-length, recounted-desks, recounted-behind}

@@ -1,26 +1,17 @@
 -- The relay that walks: as it was before the numbers were stored, a call counts the desk's open samples and the common use by a walk over
 -- the places, and puts no number down. In good tables every call is answered as it answers it, and leaves all that it leaves; but for the
 -- numbers. Assumes nothing.
-use Rattle.std.specs.Prelude.{ℕ, ◌+◌, ◌*◌, ◌≤◌, ◌<◌, ◌≡◌, refl, Bool, true, false, List, [], ◌∷◌, ◌++◌, length, take, drop}
-use Rattle.std.proofs.Common.{arith, sym, ap, ◌∙◌, append_assoc, length-append, length-take-le, drop_at, drop-drop, take-add}
-use Rattle.std.proofs.Math.Path.{subst}
-use Rattle.laws.specs.Rows.{◌⇒◌⁏◌, ◌or◌, or-none}
-use Rattle.laws.specs.Region.{splice}
-use Rattle.paper.specs.Limits.{finished_most, marks_each, store_size, head_size, places, marks_need, stores_need}
+use Rattle.std.specs.Prelude.{ℕ, ◌≡◌, List, [], length, drop}
+use Rattle.laws.specs.Rows.{◌or◌}
+use Rattle.paper.specs.Limits.{head_size}
 use Rattle.paper.specs.declared.Name.{Name}
 use Rattle.paper.specs.declared.Sender.{Sender}
 use Rattle.paper.specs.declared.Time.{Time}
 use Rattle.paper.specs.declared.Time.TheVariants.{Known}
-use Rattle.sample.specs.declared.Place.{Place}
-use Rattle.style.specs.Shown.{shown}
-use Rattle.desk.specs.Desk.{Own, After, Given, own, newest_of}
-use Rattle.memory.specs.Relay.{Tables, tables, desks_of, places_of, row_of, marks_of, store_of, open_at, own_of, shares_of, stored_shares}
-use Rattle.memory.specs.Relay.{placed, was_open, is_open, put_own, put_back, stranger, short, lacks_three, lacks, lacking, ordered}
-use Rattle.memory.specs.Relay.{Done, done, settled, received_among, received_at, Released, released, yielded, returned}
-use Rattle.memory.specs.Relay.{given_up_among, given_up_at, looked_up_among, looked_up}
-use Rattle.memory.proofs.Back.{own_same, put_same}
-use Rattle.good.specs.Counts.{recounted-length, recounted-desks, recounted-behind}
-use Rattle.good.specs.Good.{Good, shares-are, below}
+use Rattle.desk.specs.Desk.{After, Given}
+use Rattle.memory.specs.Relay.{Tables, desks_of, places_of, own_of, shares_of}
+use Rattle.memory.specs.Relay.{put_own, stranger, lacks_three, lacking, ordered}
+use Rattle.memory.specs.Relay.{Done, done, Released, released, yielded}
 
 -- ---- receive, by the shares as a walk finds them; the desk's own things are put back, and nothing is counted
 abbrev pub walked_settled : (n : ℕ) → Tables → (desk : ℕ) → Time → After → Done

@@ -1,3 +1,2 @@
 // No code: what every call of the relay keeps to.
 #![tactic(auto)]
-

@@ -8,11 +8,8 @@ use Rattle.std.proofs.Math.Seq.{length-sets}
 use Rattle.std.proofs.lemmas.List.{take-append-le}
 use Rattle.laws.specs.Rows.{◌or◌, each, ge-of}
 use Rattle.paper.specs.Limits.{sample_most}
-use Rattle.paper.specs.declared.Facts.{Facts}
 use Rattle.paper.specs.declared.Sender.{Sender}
 use Rattle.paper.specs.declared.Time.{Time}
-use Rattle.paper.specs.declared.Outcome.{Outcome}
-use Rattle.paper.specs.declared.Outcome.TheVariants as O
 use Rattle.text.specs.Unicode.{WellFormed}
 use Rattle.joining.specs.Joining.{together, string_of}
 use Rattle.joining.specs.Strings.{string-short}
@@ -38,7 +35,7 @@ use Rattle.memory.specs.declared.Started.TheVariants.{Ready}
 use Rattle.memory.specs.Relay.{Tables, own_of, stored_shares, stranger, lacking, set_up, ordered, received_among, received_at, sender}
 use Rattle.good.specs.Good.{Good}
 use Rattle.good.specs.Leaves.{part-sane}
-use Rattle.peace.specs.Run.{Call, receive, give-up, lookup, Got, answered, released, shown, got, run}
+use Rattle.peace.specs.Run.{Call, receive, give-up, lookup, got, run}
 use Rattle.peace.specs.Always.{AllGet}
 use Rattle.peace.proofs.Always.{good-get}
 use Rattle.joined.specs.Strings.{HandsWell, GotWell}

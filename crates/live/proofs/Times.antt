@@ -25,7 +25,7 @@ use Rattle.desk.specs.Desk.{Own, After, own, says, stay, refuse, later, later_pa
 use Rattle.desk.specs.Desk.{taken, received, is_text}
 use Rattle.desk.specs.Effects.{refusal_number, Regular}
 use Rattle.desk.proofs.Effects.{at-times, whole-regular, joining-regular, description-regular}
-use Rattle.memory.specs.Relay.{Tables, tables, desks_of, places_of, open_at, own_of, stored_shares, put_back}
+use Rattle.memory.specs.Relay.{Tables, desks_of, places_of, open_at, own_of, stored_shares, put_back}
 use Rattle.memory.specs.Relay.{stranger, lacking, ordered, Done, done, settled, received_among, sender, received_at, shut_out}
 use Rattle.memory.proofs.Back.{put-still, put_same}
 use Rattle.live.specs.Times.{next_of, Timing, NoTime, Timed, Endless, untold}

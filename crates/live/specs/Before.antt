@@ -1,23 +1,19 @@
 -- The relay as it was before a time could be unknown: SDUR 0 is added like any other. A call at a known time is answered as it answers it
 -- exactly if no unknown time comes of it; and with a known start and no SDUR 0 in TYPE 1 units and last parts, so is every call over a
 -- whole payload. Assumes nothing.
-use Rattle.std.specs.Prelude.{ℕ, zero, suc, ◌≡◌, refl, Bool, true, false, List, [], ◌∷◌, drop}
-use Rattle.std.proofs.Common.{sym, ap, subst, ◌∙◌}
-use Rattle.laws.specs.Exactly.{Exactly}
-use Rattle.laws.specs.Rows.{◌⇒◌⁏◌, ◌or◌, ◌=?◌, each, below, yes, no, ne, eq_of}
+use Rattle.std.specs.Prelude.{ℕ, zero, suc, List, [], ◌∷◌, drop}
+use Rattle.laws.specs.Rows.{◌⇒◌⁏◌, ◌or◌, ◌=?◌}
 use Rattle.paper.specs.declared.Sender.{Sender}
 use Rattle.paper.specs.declared.Time.{Time}
 use Rattle.paper.specs.declared.Time.TheVariants.{Known}
-use Rattle.unit.specs.declared.Part as P
 use Rattle.unit.specs.declared.Unit.{Unit}
 use Rattle.unit.specs.declared.Unit.TheVariants.{End, Skipped, Refused, Whole, Part, Description}
 use Rattle.unit.specs.Layout.{read_of, data_of}
 use Rattle.desk.specs.declared.Shares.{Shares}
-use Rattle.desk.specs.Desk.{Own, After, added, later, later_part, whole_taken, sample_of, part_taken, description_taken, timed}
-use Rattle.desk.specs.Desk.{taken, received}
-use Rattle.desk.proofs.Effects.{whole-regular, joining-regular}
-use Rattle.memory.specs.Relay.{Tables, desks_of, own_of, stored_shares, stranger, lacking, gated, ordered, Done, settled, received_among}
-use Rattle.memory.specs.Relay.{sender, received_at, shut_out}
+use Rattle.desk.specs.Desk.{Own, After, added, whole_taken, part_taken, timed}
+use Rattle.desk.specs.Desk.{taken}
+use Rattle.memory.specs.Relay.{Tables, desks_of, own_of, stored_shares, stranger, lacking, gated, Done, settled}
+use Rattle.memory.specs.Relay.{sender}
 use Rattle.live.specs.Times.{Endless}
 
 -- ---- what a unit made of the running time

@@ -8,15 +8,13 @@ use mathlib.Core.List.{List, [], ◌∷◌}
 use Rattle.laws.specs.Rows.{◌⇒◌⁏◌, ◌or◌, ◌=?◌, no, below, eq_of, ne_of}
 use Rattle.laws.specs.Table.{count}
 use Rattle.paper.specs.declared.Time.{Time}
-use Rattle.paper.specs.declared.Time.TheVariants.{Known}
-use Rattle.style.specs.Shown as S
 use Rattle.desk.specs.declared.Shares.{Shares}
-use Rattle.desk.specs.Desk.{Own, After, newest_of}
+use Rattle.desk.specs.Desk.{Own, After}
 use Rattle.desk.proofs.Effects.{unheard}
 use Rattle.memory.specs.Table.{mine}
 use Rattle.memory.specs.Relay.{Tables, places_of, own_of, shares_of, stranger, lacking, ordered, Done, Released, sender}
 use Rattle.good.specs.Good.{name, Good, no-stranger, no-lack, receive-good, give-up-good}
-use Rattle.good.specs.View.{View, view, own_in, own-seen, seen_after, receives, gives_up, receive-others, give-up-others}
+use Rattle.good.specs.View.{View, view, own_in, own-seen, seen_after, receives, receive-others, give-up-others}
 use Rattle.good.specs.View.{receive-is, receive-own, give-up-is, give-up-own, lookup-is}
 use Rattle.peace.specs.Run.{Call, receive, give-up, lookup, caller, Got, answered, released, shown, got, next, run, to, only}
 use Rattle.peace.specs.Run.{arrives, reaches, Few, Modest}

@@ -1,6 +1,6 @@
 -- 8 and 9, exactly: of all calls they are given to those that reach the test of the shares, 8 with six of the desk's samples open, 9 with
 -- two to five open and the common use 2n; by the numbers that are stored, and in good tables by what a walk finds. Assumes nothing.
-use Rattle.std.specs.Prelude.{ℕ, ◌≤◌, ◌<◌, ◌≡◌, Bool, ◌⊎◌, ◌≢◌, List}
+use Rattle.std.specs.Prelude.{ℕ, ◌<◌, ◌≡◌, Bool, ◌⊎◌, ◌≢◌, List}
 use Rattle.std.proofs.Common.{arith, subst, ◌∙◌, true≢false, inl, inr, ⊎_elim}
 use Rattle.std.proofs.Math.Path.{refl, sym, ap}
 use Rattle.std.proofs.Math.Bool.{true, false}

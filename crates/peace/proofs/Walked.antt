@@ -3,10 +3,10 @@
 use Rattle.std.specs.Prelude.{ℕ, ◌≡◌, refl, List, [], ◌∷◌}
 use Rattle.std.proofs.Common.{ap, ap₂}
 use Rattle.memory.specs.declared.Started.TheVariants.{Ready}
-use Rattle.memory.specs.Relay.{Tables, places_of, set_up, looked_up, sender}
+use Rattle.memory.specs.Relay.{Tables, places_of, set_up, sender}
 use Rattle.good.specs.Counts.{Stored}
 use Rattle.good.specs.Good.{name, Good, set-up-good}
-use Rattle.good.specs.Walked.{walked_at, walked_given_up, Alike}
+use Rattle.good.specs.Walked.{Alike}
 use Rattle.good.proofs.Walked.{itself, lookup-alike, receive-alike, give-up-alike}
 use Rattle.peace.specs.Run.{Call, receive, give-up, lookup, caller, Got, answered, released, shown, got, next, run}
 use Rattle.peace.proofs.Alone.{next-good}

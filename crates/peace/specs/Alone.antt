@@ -1,25 +1,15 @@
 -- The desk alone: what it gets is settled by its own view and its own calls. In good tables a modest desk gets, among all others, what it
 -- gets alone. Assumes nothing.
-use Rattle.std.specs.Prelude.{ℕ, ◌<◌, ◌≡◌, Bool}
-use Rattle.std.proofs.Math.Path.{refl, ap, ap₂, subst}
-use Rattle.std.proofs.Common.{sym, ◌∙◌}
+use Rattle.std.specs.Prelude.{◌≡◌, Bool}
 use Rattle.std.proofs.Math.Bool.{true, false}
 use mathlib.Core.List.{List, [], ◌∷◌}
-use Rattle.laws.specs.Rows.{◌⇒◌⁏◌, ◌or◌, ◌=?◌, no, below, eq_of, ne_of}
-use Rattle.laws.specs.Table.{count}
-use Rattle.paper.specs.declared.Time.{Time}
 use Rattle.paper.specs.declared.Time.TheVariants.{Known}
 use Rattle.style.specs.Shown as S
 use Rattle.desk.specs.declared.Shares.{Shares}
-use Rattle.desk.specs.Desk.{Own, After, newest_of}
-use Rattle.desk.proofs.Effects.{unheard}
-use Rattle.memory.specs.Table.{mine}
-use Rattle.memory.specs.Relay.{Tables, places_of, own_of, shares_of, stranger, lacking, ordered, Done, Released, sender}
-use Rattle.good.specs.Good.{name, Good, no-stranger, no-lack, receive-good, give-up-good}
-use Rattle.good.specs.View.{View, view, own_in, own-seen, seen_after, receives, gives_up, receive-others, give-up-others}
-use Rattle.good.specs.View.{receive-is, receive-own, give-up-is, give-up-own, lookup-is}
-use Rattle.peace.specs.Run.{Call, receive, give-up, lookup, caller, Got, answered, released, shown, got, next, run, to, only}
-use Rattle.peace.specs.Run.{arrives, reaches, Few, Modest}
+use Rattle.desk.specs.Desk.{newest_of}
+use Rattle.good.specs.View.{View, own_in, seen_after, receives, gives_up}
+use Rattle.peace.specs.Run.{Call, receive, give-up, lookup, Got, answered, released, shown}
+use Rattle.peace.specs.Run.{arrives, Few}
 
 -- ---- one call of the desk alone
 -- the shares as it would find them: its own open samples, and no common use

@@ -1,10 +1,7 @@
 -- What set-up makes and each call keeps holds after any list of calls. Assumes nothing.
-use Rattle.std.specs.Prelude.{ℕ, ◌≡◌, refl, List, [], ◌∷◌, ◌++◌}
-use Rattle.std.proofs.Common.{ap}
-use Rattle.memory.specs.declared.Started.TheVariants.{Ready}
-use Rattle.memory.specs.Relay.{Tables, set_up}
-use Rattle.good.specs.Good.{Good, set-up-good}
-use Rattle.peace.specs.Run.{Call, Got, caller, got, next, run}
+use Rattle.std.specs.Prelude.{ℕ, List, [], ◌∷◌}
+use Rattle.memory.specs.Relay.{Tables}
+use Rattle.peace.specs.Run.{Call, Got, next}
 
 -- the tables after the calls, one after the other
 abbrev pub tables_after : Tables → List Call → Tables

@@ -1,15 +1,10 @@
 -- Runs of the relay that walks, as it was before the numbers were stored: from set-up on, every call of every run gets what it gets there.
 -- And after any list of calls the stored numbers are what a walk finds. Assumes nothing.
-use Rattle.std.specs.Prelude.{ℕ, ◌≡◌, refl, List, [], ◌∷◌}
-use Rattle.std.proofs.Common.{ap, ap₂}
-use Rattle.memory.specs.declared.Started.TheVariants.{Ready}
-use Rattle.memory.specs.Relay.{Tables, places_of, set_up, looked_up, sender}
-use Rattle.good.specs.Counts.{Stored}
-use Rattle.good.specs.Good.{name, Good, set-up-good}
-use Rattle.good.specs.Walked.{walked_at, walked_given_up, Alike}
-use Rattle.good.proofs.Walked.{itself, lookup-alike, receive-alike, give-up-alike}
-use Rattle.peace.specs.Run.{Call, receive, give-up, lookup, caller, Got, answered, released, shown, got, next, run}
-use Rattle.peace.specs.Always.{tables_after}
+use Rattle.std.specs.Prelude.{ℕ, List, [], ◌∷◌}
+use Rattle.memory.specs.Relay.{Tables, looked_up, sender}
+use Rattle.good.specs.Good.{name}
+use Rattle.good.specs.Walked.{walked_at, walked_given_up}
+use Rattle.peace.specs.Run.{Call, receive, give-up, lookup, caller, Got, answered, released, shown}
 
 -- ---- what a call gets there, the tables after it, and a run
 abbrev pub got_walked : Tables → Call → Got

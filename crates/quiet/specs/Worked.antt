@@ -1,7 +1,7 @@
 -- Worked runs, by computation. In lent memory exactly as long as two desks need: a desk is not disturbed by one that takes all it can get;
 -- and modesty is needed, by case 10 of document 01. In any lent memory: the same quiet desk among seven others, whatever they do. In
 -- memory that holds no relay: every call is refused. Assumes nothing.
-use Rattle.std.specs.Prelude.{ℕ, ◌<◌, ◌≡◌, refl, true, false, replicate}
+use Rattle.std.specs.Prelude.{ℕ, ◌≡◌, refl, true, false, replicate}
 use Rattle.std.proofs.Common.{arith, sym, ap, ap₂, subst, ◌∙◌, true≢false}
 use mathlib.Core.List.{List, [], ◌∷◌, ◌++◌, map, flatten}
 use Rattle.std.specs.Int.Count.{ones}

@@ -1,3 +1,2 @@
 // No code: worked runs of a quiet desk, beside one that takes all it can get and among seven others.
 #![tactic(auto)]
-
