@@ -6,7 +6,7 @@ use Rattle.paper.specs.declared.Sender.{Sender}
 use Rattle.writer.specs.Write as Write
 use Rattle.desk.specs.Desk.{given_up_number}
 use Rattle.memory.specs.Relay.{Tables, Prepared, started_number, set_up, Done, received_at, Released, given_up_at}
-use Rattle.memory.specs.Lent.{Slice, Lent}
+use Rattle.memory.specs.Lent.{Slice, ReadSlice, Lent}
 use Rattle.numbers.specs.Numbers.{written_row}
 use Rattle.answers.specs.Answers.{answer_row}
 
@@ -40,7 +40,7 @@ done_as d row = rowed d.answer.used d.tables d.out (sets row 0 (answer_row d.ans
 abbrev pub SetsUpAs : (n : ℕ) → Lent → (r : ℕ) → Type 0
 SetsUpAs n l r = numbered l.exit r ≡ started_as (set_up n l.entry)
 
-abbrev pub ReceivesAs : Lent → Sender → (rest out row : Slice ℕ) → (used : ℕ) → Type 0
+abbrev pub ReceivesAs : Lent → Sender → (rest : ReadSlice ℕ) → (out row : Slice ℕ) → (used : ℕ) → Type 0
 ReceivesAs l who rest out row used =
     rowed used l.exit out.exit.now row.exit.now
     ≡ done_as (received_at l.entry who rest.entry.now out.entry.now) row.entry.now

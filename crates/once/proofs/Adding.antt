@@ -17,7 +17,6 @@ use Rattle.writer.specs.Write.{Caption, sample, long, parts, uncut}
 use Rattle.writer.specs.Returns.{Writable}
 use Rattle.writer.proofs.Returns.{cut-count}
 use Rattle.writer.proofs.Cutting.{parts-together}
-use Rattle.writer.proofs.Payloads.{total}
 use Rattle.sample.specs.declared.Place.{Place}
 use Rattle.sample.specs.Bits.{bit_of, bit-above}
 use Rattle.sample.specs.Place.{has, agrees, repeats, oversize, kept, kept_at, piece_at}

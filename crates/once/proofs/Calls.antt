@@ -3,7 +3,7 @@
 use Rattle.std.specs.Prelude.{ℕ, ◌≤◌, ◌≡◌, Bool, true, false, List, ◌++◌, length}
 use Rattle.std.proofs.Common.{arith, sym, ap, subst, ◌∙◌, true≢false}
 use Rattle.std.proofs.Math.Path.{refl}
-use Rattle.laws.specs.Rows.{◌⇒◌⁏◌, ◌<?◌, each, yes, no, eq, ge, ge-of, and-of}
+use Rattle.laws.specs.Rows.{◌<?◌, each, yes, no, eq, ge, ge-of, and-of}
 use Rattle.paper.specs.Limits.{sample_most}
 use Rattle.paper.specs.declared.Time.{Time}
 use Rattle.paper.specs.declared.Time.TheVariants.{Known}

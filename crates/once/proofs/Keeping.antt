@@ -7,7 +7,7 @@ use Rattle.std.proofs.Math.Path.{sym, ap}
 use Rattle.std.proofs.Common.{subst, ◌∙◌, true≢false}
 use Rattle.std.proofs.Math.Bool.{true, false}
 use Rattle.std.proofs.Math.Option.{Option, none, some}
-use Rattle.laws.specs.Rows.{◌⇒◌⁏◌, ◌=?◌, each, yes, no, eq_of, and-of}
+use Rattle.laws.specs.Rows.{◌=?◌, each, yes, no, eq_of, and-of}
 use Rattle.laws.specs.Sums.{sum_same, sum-tail, sum-all}
 use Rattle.laws.specs.Lists.{get_d_any}
 use Rattle.laws.specs.Table.{bit}
@@ -22,8 +22,8 @@ use Rattle.writer.proofs.Cutting.{parts-together, parts-string, parts-ordered}
 use Rattle.writer.proofs.Payloads.{cut-allowed, total}
 use Rattle.again.specs.Again as A
 use Rattle.sample.specs.declared.Place.{Place}
-use Rattle.sample.specs.Place.{bare, opened, agrees, kept_at, missing, pieces_of}
-use Rattle.sample.specs.Kept.{Made, opened-none}
+use Rattle.sample.specs.Place.{bare, opened, kept_at, missing, pieces_of}
+use Rattle.sample.specs.Kept.{opened-none}
 use Rattle.sample.specs.Made.{opened-made}
 use Rattle.sample.specs.Arrival.{in_order, arrival, in-order-is}
 use Rattle.sample.specs.Missing.{is_kept, missing-is}

@@ -11,7 +11,6 @@ use Rattle.paper.specs.declared.Refusal.{Refusal}
 use Rattle.paper.specs.declared.Refusal.TheVariants as R
 use Rattle.paper.specs.declared.Time.{Time}
 use Rattle.paper.specs.declared.Time.TheVariants.{Known, Unknown}
-use Rattle.paper.specs.declared.Outcome.{Outcome}
 use Rattle.unit.specs.declared.Whole as W
 use Rattle.unit.specs.declared.Part as P
 use Rattle.unit.specs.declared.Description as D
@@ -21,7 +20,6 @@ use Rattle.unit.specs.Layout.{read_of}
 use Rattle.unit.specs.Reads.{ByReader}
 use Rattle.unit.proofs.Readings.{read-by-reader}
 use Rattle.sample.specs.declared.Place.{Place}
-use Rattle.finished.specs.Times.{marked_row, marked_used}
 use Rattle.style.specs.Store.{noted}
 use Rattle.style.specs.Store as S
 use Rattle.desk.specs.declared.Shares.{Shares}
@@ -31,7 +29,7 @@ use Rattle.desk.proofs.Effects.{not-ten, at-times}
 use Rattle.memory.specs.Relay.{ordered, yielded}
 use Rattle.good.specs.View.{View, own_in, receives, gives_up}
 use Rattle.once.specs.Ours.{offers}
-use Rattle.once.specs.Due.{hands_out, finishing, freeing}
+use Rattle.once.specs.Due.{freeing}
 use Rattle.once.specs.Marks.{Marks, Marked, Idle, Idles}
 
 module _ (s : Own) (t : Time) where

@@ -1,6 +1,6 @@
 -- Handed out once: a sample whose payloads all come to a modest desk is handed out at exactly one call, whatever all others do.
 -- Assumes nothing.
-use Rattle.std.specs.Prelude.{ℕ, suc, ◌+◌, ◌≤◌, ◌<◌, ◌≡◌, Bool, List, [], ◌∷◌, length, replicate}
+use Rattle.std.specs.Prelude.{ℕ, suc, ◌+◌, ◌<◌, ◌≡◌, Bool, List, [], ◌∷◌, length, replicate}
 use native.Mathlib.Omega.{arith}
 use Rattle.std.proofs.Math.Path.{refl, ap, subst}
 use Rattle.std.proofs.Common.{sym, ◌∙◌, true≢false, ⊎_elim}
@@ -31,7 +31,7 @@ use Rattle.good.specs.Fresh.{fresh_view, set-up-view}
 use Rattle.peace.specs.Run.{Call, receive, give-up, lookup, Got, run, to, only, Modest}
 use Rattle.peace.specs.Alone.{own_got, own_view, alone, Frugal}
 use Rattle.peace.proofs.Alone.{modest-frugal, as-frugal}
-use Rattle.once.specs.Ours.{counts, payload_number, Every, EachGot, Ours, NotGivenUp, Brings, Comes}
+use Rattle.once.specs.Ours.{counts, payload_number, Every, EachGot, Ours, NotGivenUp, Brings}
 use Rattle.once.specs.Due.{Stage, gathering, finished, with, hands_out, finishes, due, brought, passed, onward, AllSoon, AllDue, handings, start, Coming, HandedOnce}
 use Rattle.once.specs.Due as W
 use Rattle.once.specs.Keeping.{Gathered}

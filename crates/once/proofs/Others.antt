@@ -24,7 +24,7 @@ use Rattle.good.specs.View.{View, seen_at, own_in, seen_after, receives, gives_u
 use Rattle.peace.specs.Run.{Call, receive, give-up, lookup, released}
 use Rattle.peace.specs.Alone.{lone, own_got, own_view}
 use Rattle.once.specs.Ours.{counts, NotGivenUp}
-use Rattle.once.specs.Due.{Stage, gathering, finished, finishing, freeing, passed, handing}
+use Rattle.once.specs.Due.{Stage, gathering, finished, finishing, freeing, passed}
 use Rattle.once.specs.Marks.{Marks, Idles}
 use Rattle.once.proofs.Marks.{receive-marks, receive-idles, give-up-marks}
 use Rattle.once.specs.Others.{Fit, Since, Timely, Passes}

@@ -15,7 +15,6 @@ use Rattle.paper.specs.declared.Time.{Time}
 use Rattle.paper.specs.declared.Time.TheVariants.{Known}
 use Rattle.paper.specs.declared.Outcome.{Outcome}
 use Rattle.paper.specs.declared.Outcome.TheVariants as O
-use Rattle.unit.specs.declared.Whole as W
 use Rattle.unit.specs.declared.Part as P
 use Rattle.unit.specs.declared.Unit as U
 use Rattle.unit.specs.declared.Unit.TheVariants.{End, Skipped, Refused, Whole, Part, Description}
@@ -33,7 +32,7 @@ use Rattle.desk.specs.Effects.{asks_part}
 use Rattle.good.specs.View.{View, own_in, seen_after}
 use Rattle.peace.specs.Run.{Few}
 use Rattle.peace.specs.Alone.{lone}
-use Rattle.once.specs.Due.{hands_out, Stage, gathering, finished, with, awaited, due, output, brought}
+use Rattle.once.specs.Due.{hands_out, Stage, gathering, finished, with, awaited, due, brought}
 use Rattle.once.specs.Keeping.{Bears, Gathered, Only}
 use Rattle.once.proofs.Keeping.{with-only, missing-awaited, word-all, sound-all, together-all, string-all}
 use Rattle.once.proofs.Adding.{agrees-ours, repeats-ours, no-repeat, fresh, kept-gathered}

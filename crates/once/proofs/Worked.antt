@@ -1,15 +1,13 @@
 -- Worked runs, by computation. The parts of cases 7 and 8 of document 01 are what the writer gives of their sample; calls that bring them
 -- keep to all that 'handed out once' presumes. And how long a repeat is late: until sixteen more samples are finished. Assumes nothing.
-use Rattle.std.specs.Prelude.{ℕ, zero, suc, ◌+◌, ◌≤◌, ◌<◌, ◌≡◌, refl, true, false, length, get_or, replicate}
+use Rattle.std.specs.Prelude.{ℕ, zero, suc, ◌≤◌, ◌<◌, ◌≡◌, refl, true, false, length, get_or, replicate}
 use Rattle.std.proofs.Common.{arith, sym, ap, subst, true≢false, inl, inr}
-use mathlib.Core.List.{List, [], ◌∷◌, ◌++◌, flatten}
+use mathlib.Core.List.{List, [], ◌++◌, flatten}
 use Rattle.std.specs.Int.Count.{ones}
 use Rattle.std.proofs.lemmas.List.{length-replicate}
 use Rattle.laws.specs.Rows.{◌⇒◌⁏◌, ◌<?◌, ◌=?◌}
 use Rattle.paper.specs.Limits.{sample_most}
 use Rattle.paper.specs.declared.Refusal.TheVariants as R
-use Rattle.paper.specs.declared.Time.TheVariants.{Known}
-use Rattle.paper.specs.declared.Outcome.{Outcome}
 use Rattle.paper.specs.declared.Outcome.TheVariants as O
 use Rattle.text.specs.Chart.{chart, within, follows, charted}
 use Rattle.text.specs.Unicode.{character, well_formed, well_within, reach, reach_within}
@@ -17,7 +15,7 @@ use Rattle.unit.specs.Layout.{read_of, broken, judged, fields_of, least, bad_par
 use Rattle.joining.specs.Joining as J
 use Rattle.unit.specs.Head.{part_head}
 use Rattle.writer.specs.Cut.{cuts, cuts_within, modified, pieces}
-use Rattle.writer.specs.Write.{Caption, caption, long, count, part_unit, payload_unit, payload_data, payload, unsized, ill_formed}
+use Rattle.writer.specs.Write.{Caption, long, count, part_unit, payload_unit, payload_data, payload, unsized, ill_formed}
 use Rattle.writer.specs.Write.{unwritable, uncut, written}
 use Rattle.writer.specs.declared.Written.TheVariants.{Payload}
 use Rattle.sample.specs.Place.{bare, outside, has, agrees, stands, repeats, oversize, told_with, telling, laid, kept, missing, pieces_in}
@@ -25,17 +23,17 @@ use Rattle.sample.specs.Place.{pieces_of}
 use Rattle.finished.specs.Times.{among, moved_row, marked_row, marked_used}
 use Rattle.desk.specs.declared.GivenUp.TheVariants.{Freed}
 use Rattle.desk.specs.declared.GivenUp.TheVariants as G
-use Rattle.desk.specs.Desk.{says, later, later_part, whole_taken, sample_of, conflicts, six, used_up, completed, joining, received, given_up}
+use Rattle.desk.specs.Desk.{later, later_part, whole_taken, sample_of, conflicts, six, used_up, completed, joining, received, given_up}
 use Rattle.desk.specs.Effects.{asks_part}
 use Rattle.octets.specs.Same.{same}
 use Rattle.memory.specs.declared.Started.TheVariants.{Ready}
 use Rattle.memory.specs.Relay.{Tables, set_up, ordered, yielded}
 use Rattle.good.specs.Fresh.{fresh_view}
-use Rattle.peace.specs.Run.{Call, receive, give-up, Got, answered, released, shown, run, to, only}
+use Rattle.peace.specs.Run.{Call, released, shown, run, to, only}
 use Rattle.peace.specs.Alone.{alone, Frugal}
 use Rattle.peace.proofs.Peace.{as-fresh, fresh-modest}
-use Rattle.once.specs.Ours.{Begins, OneOf, NotGivenUp, EachGot, Comes}
-use Rattle.once.specs.Due.{awaited, start, AllSoon, Coming, HandedOnce}
+use Rattle.once.specs.Ours.{Begins, OneOf, Comes}
+use Rattle.once.specs.Due.{awaited, Coming, HandedOnce}
 use Rattle.once.proofs.Once.{handed-out-once}
 use Rattle.once.specs.Worked.{first, second, all, letters, blink, blinked, blank, hi, plain, abc, calls, whole_calls, three_calls, Meets, run_with, hears}
 

@@ -1,6 +1,6 @@
 -- What the writer writes for a description is shown as it: in good tables a desk that receives it, whatever follows it in the payload, and
 -- is not refused, looks it up byte for byte. Assumes nothing.
-use Rattle.std.specs.Prelude.{ℕ, ◌*◌, ◌≤◌, ◌<◌, ◌≡◌, refl, false, ◌⊎◌, List, ◌++◌, length, take}
+use Rattle.std.specs.Prelude.{ℕ, ◌*◌, ◌≤◌, ◌<◌, ◌≡◌, false, ◌⊎◌, List, ◌++◌, length, take}
 use Rattle.std.proofs.Common.{arith, sym, ◌∙◌, ⊎_elim, get_or-set_same}
 use Rattle.std.proofs.Math.Path.{ap, subst}
 use Rattle.laws.specs.Rows.{each}
@@ -12,7 +12,6 @@ use Rattle.paper.specs.declared.Outcome.{Outcome}
 use Rattle.paper.specs.declared.Outcome.TheVariants as O
 use Rattle.unit.specs.declared.Description as D
 use Rattle.unit.specs.declared.Reading.{Reading}
-use Rattle.unit.specs.Layout.{description, reading, read_of, data_of}
 use Rattle.writer.specs.Write.{described}
 use Rattle.writer.specs.declared.Written.TheVariants.{Payload}
 use Rattle.again.specs.Described.{DescribedAgain, described-again}

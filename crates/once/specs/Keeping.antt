@@ -1,34 +1,17 @@
 -- The place of a sample that was cut, when some of its parts came: how many are missing, and that all of them make the sample.
 -- Assumes nothing.
-use Prim.Native.Nat.{ℕ, suc, ◌+◌, ◌-◌, ◌≤◌}
-use native.Mathlib.Omega.{arith}
-use Rattle.std.specs.Prelude.{◌≡◌, refl, Bool, List, [], ◌∷◌, length, get_or}
-use Rattle.std.proofs.Math.Path.{sym, ap}
-use Rattle.std.proofs.Common.{subst, ◌∙◌, true≢false}
-use Rattle.std.proofs.Math.Bool.{true, false}
-use Rattle.std.proofs.Math.Option.{Option, none, some}
-use Rattle.laws.specs.Rows.{◌⇒◌⁏◌, ◌=?◌, each, yes, no, eq_of, and-of}
-use Rattle.laws.specs.Sums.{sum_same, sum-tail, sum-all}
-use Rattle.laws.specs.Lists.{get_d_any}
-use Rattle.laws.specs.Table.{bit}
-use Rattle.paper.specs.Limits.{parts_most}
-use Rattle.joining.specs.Joining.{Piece, piece, kinds, together, string_of, sound, ordered}
-use Rattle.text.proofs.Strings.{well-formed}
+use Prim.Native.Nat.{ℕ, ◌-◌, ◌≤◌}
+use Rattle.std.specs.Prelude.{◌≡◌, Bool, List, [], length, get_or}
+use Rattle.std.proofs.Math.Bool.{true}
+use Rattle.std.proofs.Math.Option.{none, some}
+use Rattle.laws.specs.Rows.{◌⇒◌⁏◌}
+use Rattle.joining.specs.Joining.{Piece, piece}
 use Rattle.unit.specs.declared.Part as P
-use Rattle.writer.specs.Write.{Caption, sample, long, parts, count, uncut}
-use Rattle.writer.specs.Returns.{Writable}
-use Rattle.writer.proofs.Returns.{cut-count}
-use Rattle.writer.proofs.Cutting.{parts-together, parts-string, parts-ordered}
-use Rattle.writer.proofs.Payloads.{cut-allowed, total}
+use Rattle.writer.specs.Write.{Caption, sample, parts, count}
 use Rattle.again.specs.Again as A
 use Rattle.sample.specs.declared.Place.{Place}
-use Rattle.sample.specs.Place.{bare, opened, agrees, kept_at, missing, pieces_of}
-use Rattle.sample.specs.Kept.{Made, opened-none}
-use Rattle.sample.specs.Made.{opened-made}
-use Rattle.sample.specs.Arrival.{in_order, arrival, in-order-is}
-use Rattle.sample.specs.Missing.{is_kept, missing-is}
-use Rattle.sample.specs.Sound.{told_of}
-use Rattle.once.specs.Due.{with, awaited}
+use Rattle.sample.specs.Place.{kept_at}
+use Rattle.sample.specs.Kept.{Made}
 
 -- part number k
 abbrev pub part_of : Caption → (M k : ℕ) → Piece

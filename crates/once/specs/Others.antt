@@ -1,31 +1,14 @@
 -- A call that does not count: it leaves the sample as it was, and its time is late afterwards as the next stage says. Assumes nothing.
-use Rattle.std.specs.Prelude.{ℕ, suc, ◌≤◌, ◌<◌, ◌≡◌, Bool, List, [], ◌∷◌, ◌++◌, length}
-use Rattle.std.proofs.Common.{arith, subst, ◌∙◌, true≢false, ⊎_elim}
-use Rattle.std.proofs.Math.Path.{refl, sym, ap}
-use Rattle.std.proofs.Math.Bool.{true, false}
-use Rattle.std.proofs.Math.ListN.{length-append}
-use Rattle.laws.specs.Rows.{◌⇒◌⁏◌, ◌=?◌, each, yes, eq, eq_of}
+use Rattle.std.specs.Prelude.{ℕ, ◌≤◌, ◌<◌, ◌≡◌, List, ◌∷◌, length}
+use Rattle.std.proofs.Math.Bool.{false}
 use Rattle.paper.specs.Limits.{finished_most}
-use Rattle.paper.specs.declared.Time.{Time}
-use Rattle.paper.specs.declared.Time.TheVariants.{Known}
-use Rattle.sample.specs.declared.Place.{Place}
-use Rattle.finished.specs.Times.{late, marked_row, marked_used}
+use Rattle.finished.specs.Times.{late}
 use Rattle.finished.specs.Marks.{row_after, used_after}
-use Rattle.finished.proofs.Marks.{length-kept}
-use Rattle.finished.proofs.Until.{found-until, no_other}
-use Rattle.desk.specs.declared.GivenUp.{GivenUp}
-use Rattle.desk.specs.declared.GivenUp.TheVariants.{Freed}
-use Rattle.desk.specs.declared.GivenUp.TheVariants as G
-use Rattle.desk.specs.Desk.{Own, in_use, Given, given_up}
-use Rattle.memory.specs.Table.{is_time}
-use Rattle.memory.specs.Relay.{yielded}
-use Rattle.good.specs.Places.{time-of}
-use Rattle.good.specs.View.{View, seen_at, own_in, seen_after, receives, gives_up}
-use Rattle.peace.specs.Run.{Call, receive, give-up, lookup, released}
-use Rattle.peace.specs.Alone.{lone, own_got, own_view}
-use Rattle.once.specs.Ours.{counts, NotGivenUp}
-use Rattle.once.specs.Due.{Stage, gathering, finished, finishing, freeing, passed, handing}
-use Rattle.once.specs.Marks.{Marks, Idles}
+use Rattle.desk.specs.Desk.{in_use}
+use Rattle.good.specs.View.{View}
+use Rattle.peace.specs.Run.{Call}
+use Rattle.peace.specs.Alone.{own_got, own_view}
+use Rattle.once.specs.Due.{Stage, gathering, finished, passed, handing}
 
 -- ---- the row and the marks are as long as a desk needs them
 pub record Fit (v : View) : Type 0 where

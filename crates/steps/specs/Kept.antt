@@ -13,7 +13,7 @@ use Rattle.asks.specs.declared.Arrival.{Arrival}
 use Rattle.asks.specs.Settled.{open_in, laid}
 use Rattle.memory.specs.Relay.{Tables, tables, recounted, Done, done}
 use Rattle.memory.proofs.Counted.{recounted-same}
-use Rattle.memory.specs.Lent.{Slice, Lent}
+use Rattle.memory.specs.Lent.{Slice, ReadSlice, Lent}
 use Rattle.steps.specs.Plan.{Plan, plan, part_planned, laid_plan, counted_plan}
 
 -- ---- at none where i is past the end
@@ -38,7 +38,7 @@ abbrev pub joined_at : (i : ℕ) → Tables → Sender → Arrival → (rest out
 joined_at i s who x rest out = kept_done i who.desk s (kept_plan i s who x rest out)
 
 -- what a call with the part leaves and answers, with stores of a length that was told, whatever they hold
-abbrev pub JoinsAt : (i : ℕ) → (List ℕ → Lent) → (store_len : ℕ) → Sender → Arrival → (rest out : Slice ℕ) → Answer → Type 0
+abbrev pub JoinsAt : (i : ℕ) → (List ℕ → Lent) → (store_len : ℕ) → Sender → Arrival → (rest : ReadSlice ℕ) → (out : Slice ℕ) → Answer → Type 0
 JoinsAt i l store_len who x rest out r =
     (stores : List ℕ) → length stores ≡ store_len
     → done (l stores).exit out.exit.now r ≡ joined_at i (l stores).entry who x rest.entry.now out.entry.now

@@ -1,45 +1,25 @@
 -- The twelve cases of document 01, 'Worked by hand', and those of requests 1 to 3 of document 02, as lists, and one statement over them:
 -- each holds of the definitions that the promises of set-up, receive, give-up, lookup and the writer cite. Assumes nothing.
-use Rattle.std.specs.Prelude.{ℕ, ◌≡◌, refl, true, false, ◌⊎◌, replicate, drop}
-use Rattle.std.proofs.Common.{arith, sym, subst, ◌∙◌, true≢false, inl, inr}
-use mathlib.Core.List.{List, [], ◌∷◌, ◌++◌, map, flatten}
-use Rattle.std.specs.Int.Count.{ones}
+use Rattle.std.specs.Prelude.{ℕ, ◌≡◌, ◌⊎◌, replicate, drop}
+use mathlib.Core.List.{List, [], ◌∷◌, ◌++◌, map}
 use Rattle.std.proofs.lemmas.List.Edits.{sets}
-use Rattle.laws.specs.Rows.{◌⇒◌⁏◌, ◌<?◌, ◌=?◌, or-none}
 use Rattle.laws.specs.Region.{part}
 use Rattle.paper.specs.Limits.{head_size}
 use Rattle.paper.specs.declared.Refusal.TheVariants as R
 use Rattle.paper.specs.declared.Time.TheVariants.{Known, Unknown}
 use Rattle.paper.specs.declared.Outcome.{Outcome}
 use Rattle.paper.specs.declared.Outcome.TheVariants as O
-use Rattle.text.specs.Chart.{chart, within, follows, charted, unit_at, paired}
-use Rattle.text.specs.Unicode.{character, well_formed, well_within, reach, reach_within}
-use Rattle.unit.specs.Layout.{read_of, broken, judged, fields_of, least, bad_part, bad_whole, bad_description, text_judged, ill_text}
-use Rattle.unit.specs.Head.{part_head}
-use Rattle.joining.specs.Joining as J
-use Rattle.sample.specs.Place.{bare, outside, has, agrees, stands, repeats, oversize, told_with, telling, laid, kept, missing, pieces_in}
-use Rattle.sample.specs.Place.{pieces_of}
-use Rattle.style.specs.Store.{in_window, held, repeated, noted}
-use Rattle.style.specs.Store as S
-use Rattle.finished.specs.Times.{among, marked_row, marked_used}
 use Rattle.desk.specs.declared.GivenUp.TheVariants as G
-use Rattle.desk.specs.Effects.{asks_part}
-use Rattle.desk.specs.Desk.{says, facts, later, later_part, sample_of, conflicts, six, used_up, whole_taken, completed, joining, received}
-use Rattle.desk.specs.Desk.{description_taken, given_up}
+use Rattle.desk.specs.Desk.{says, facts}
 use Rattle.writer.specs.declared.Written.{Written}
 use Rattle.writer.specs.declared.Written.TheVariants as W
-use Rattle.writer.specs.Cut.{cuts, cuts_within, modified, pieces}
-use Rattle.writer.specs.Write.{Caption, caption, long, count, part_unit, payload_data, payload_unit, unsized, ill_formed, unwritable, uncut}
+use Rattle.writer.specs.Write.{Caption, caption}
 use Rattle.writer.specs.Write.{after, written}
 use Rattle.memory.specs.declared.Started.TheVariants.{Ready}
-use Rattle.memory.specs.Relay.{Tables, stands_at, stepped, common_stepped, improper, stranger, short, own_marks, set_up, ordered, received_among}
-use Rattle.memory.specs.Relay.{yielded, given_up_among}
-use Rattle.good.specs.Good.{ready-exactly}
-use Rattle.good.specs.Fresh.{fresh_view, Exact, exact_tables, set-up-exact}
+use Rattle.memory.specs.Relay.{Tables, set_up}
+use Rattle.good.specs.Fresh.{Exact, exact_tables}
 use Rattle.peace.specs.Run.{Call, receive, give-up, Got, answered, released, next, run}
-use Rattle.peace.specs.Alone.{alone, Frugal}
-use Rattle.peace.proofs.Peace.{as-fresh}
-use Rattle.worked.specs.Descriptions.{blank_output, describes, describes_gets, Case9, describing, then-74, then-75}
+use Rattle.worked.specs.Descriptions.{blank_output, describes, describes_gets}
 
 -- ---- what a case says
 -- a caption of so many ASCII letters and no modifiers, and the output lent for a payload of it
