@@ -8,7 +8,7 @@ use Rattle.std.proofs.Math.ListN.{length}
 use Rattle.std.proofs.Math.Seq.{drop-append_seam, drop-append-add}
 use Rattle.laws.specs.Rows.{yes, no, ge, eq, ne}
 use Rattle.laws.specs.Region.{part}
-use Rattle.octets.specs.Be.{u8_at, u32_at, be32}
+use Rattle.octets.specs.Be.{u8_at, u32_at}
 use Rattle.boxes.specs.declared.Found.{Found}
 use Rattle.boxes.specs.declared.Found.TheVariants.{End, Box}
 use Rattle.boxes.specs.declared.Stepped.{Stepped}

@@ -1,9 +1,8 @@
 -- The whole walk, box after box, and that nothing of the modifiers is lost in it. Assumes nothing.
-use Rattle.std.specs.Prelude.{ℕ, zero, suc, ◌+◌, ◌-◌, ◌≤◌, refl, ◌⊎◌, List, [], ◌∷◌, ◌++◌, length, drop}
+use Rattle.std.specs.Prelude.{ℕ, zero, suc, ◌+◌, ◌-◌, ◌≤◌, refl, List, [], ◌++◌, length, drop}
 use Rattle.std.proofs.Common.{arith, ap, sym, ◌∙◌, inl, inr, take-append-drop, drop_of_length-le, drop-drop}
 use Rattle.std.proofs.Math.Path.{◌≡◌}
 use Rattle.laws.specs.Region.{part}
-use Rattle.paper.specs.declared.Refusal.TheVariants as R
 use Rattle.boxes.specs.declared.Found.{Found}
 use Rattle.boxes.specs.declared.Found.TheVariants.{End, Box, Refused}
 use Rattle.boxes.specs.Step.{header_size, size_at, step_of, contents_of, Says}

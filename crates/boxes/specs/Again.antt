@@ -1,19 +1,11 @@
 -- 'Box again': a box that is put down is found as what it is, whatever stands before it and follows it, and boxes put down one after
 -- the other are walked as that list. Assumes nothing.
-use Rattle.std.specs.Prelude.{ℕ, zero, suc, ◌+◌, ◌-◌, ◌*◌, ◌/◌, ◌%◌, ◌<◌, ◌≤◌, ◌≡◌, refl, List, [], ◌∷◌, ◌++◌, take}
-use native.Mathlib.Omega.{arith}
-use Rattle.std.proofs.Math.Path.{sym}
-use Rattle.std.proofs.Common.{ap, ◌∙◌, append_assoc, length-append, get_or-append-add, take_at}
+use Rattle.std.specs.Prelude.{ℕ, ◌+◌, ◌<◌, List, [], ◌∷◌, ◌++◌}
 use Rattle.std.proofs.Math.ListN.{length}
-use Rattle.std.proofs.Math.Seq.{drop-append_seam, drop-append-add}
-use Rattle.laws.specs.Rows.{yes, no, ge, eq, ne}
-use Rattle.laws.specs.Region.{part}
-use Rattle.octets.specs.Be.{u8_at, u32_at, be32}
-use Rattle.boxes.specs.declared.Found.{Found}
-use Rattle.boxes.specs.declared.Found.TheVariants.{End, Box}
-use Rattle.boxes.specs.declared.Stepped.{Stepped}
-use Rattle.boxes.specs.Step.{header_size, size_at, type_at, finds, step_of, contents_of, Says}
-use Rattle.boxes.specs.Walk.{Shown, Walk, onward, walk_of, walk}
+use Rattle.octets.specs.Be.{be32}
+use Rattle.boxes.specs.declared.Found.TheVariants.{End}
+use Rattle.boxes.specs.Step.{header_size}
+use Rattle.boxes.specs.Walk.{Shown, Walk}
 
 -- ---- a box by its type and contents: the size, which counts the header too, the type, the contents
 abbrev pub box_head : (type : ℕ) → (contents : List ℕ) → List ℕ

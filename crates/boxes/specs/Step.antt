@@ -1,11 +1,8 @@
 -- One step of the box walk: what stands at a place of the modifiers, and where the next box is. Assumes nothing.
-use Rattle.std.specs.Prelude.{ℕ, ◌+◌, ◌-◌, ◌≤◌, ◌≡◌, refl, List, [], length}
-use Rattle.std.proofs.Common.{arith, ap}
-use Rattle.laws.specs.Rows.{◌⇒◌⁏◌, ◌<?◌, ◌=?◌, each, eq_of, ge-of}
+use Rattle.std.specs.Prelude.{ℕ, ◌+◌, ◌-◌, ◌≤◌, ◌≡◌, List, [], length}
+use Rattle.laws.specs.Rows.{◌⇒◌⁏◌, ◌<?◌, ◌=?◌}
 use Rattle.laws.specs.Region.{part}
 use Rattle.octets.specs.Be.{u32_at}
-use Rattle.paper.specs.Words.{number_of}
-use Rattle.paper.specs.declared.Refusal.{Refusal}
 use Rattle.paper.specs.declared.Refusal.TheVariants as R
 use Rattle.boxes.specs.declared.Found.{Found}
 use Rattle.boxes.specs.declared.Found.TheVariants.{End, Box, Refused}
