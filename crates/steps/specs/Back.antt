@@ -28,7 +28,7 @@ use Rattle.unit.proofs.Readings.{reads-counted}
 use Rattle.sample.specs.declared.Place.{Place}
 use Rattle.sample.specs.Place.{bare, closed}
 use Rattle.desk.specs.declared.Shares.{Shares}
-use Rattle.desk.specs.Desk.{Own, After, own, says, stay, refuse, is_text, is_part, part_at, description_taken, taken, received}
+use Rattle.desk.specs.Desk.{Own, After, says, stay, refuse, is_text, is_part, part_at, description_taken, taken, received}
 use Rattle.asks.specs.declared.Arrival.{Arrival}
 use Rattle.asks.specs.Asked.{laid_same}
 use Rattle.asks.specs.Settled.{open_in, part_of, arrival_of, unasked, passed}

@@ -7,7 +7,7 @@ use mathlib.Core.List.{List, ◌++◌}
 use Rattle.std.proofs.Math.ListN.{length, set, drop, get_or-eq_default}
 use Rattle.std.proofs.Math.Seq.{set_out, set-get_or}
 use Rattle.std.proofs.lemmas.List.{set-append_left}
-use Rattle.laws.specs.Rows.{◌⇒◌⁏◌, ◌or◌, ◌and◌, ◌<?◌, each, yes, no, lt, ge, lt_of, ge-of, and-of, not_is}
+use Rattle.laws.specs.Rows.{◌⇒◌⁏◌, ◌and◌, ◌<?◌, each, yes, no, lt, ge, lt_of, ge-of, and-of, not_is}
 use Rattle.laws.specs.Table.{seek, seek_hit}
 use Rattle.paper.specs.Limits.{desks_most, places}
 use Rattle.paper.specs.declared.Time.{Time}

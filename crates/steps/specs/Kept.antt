@@ -4,7 +4,6 @@ use Rattle.std.proofs.Common.{arith, sym, ap, ◌∙◌, get_or-set_same}
 use Rattle.std.proofs.Math.ListN.{get_or-eq_default}
 use Rattle.std.proofs.Math.Seq.{set_out}
 use Rattle.laws.specs.Rows.{no}
-use Rattle.paper.specs.Limits.{places}
 use Rattle.paper.specs.declared.Answer.{Answer}
 use Rattle.paper.specs.declared.Sender.{Sender}
 use Rattle.sample.specs.declared.Place.{Place}

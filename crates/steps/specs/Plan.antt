@@ -35,15 +35,15 @@ plan_of desk rows marks stores a =
     (splice (store_size * desk) store_size a.own.store stores) a.own.out
 
 -- the desk's own things, p being its sample of this time
-abbrev pub field_own : (desk : ℕ) → Place → (rows marks stores out : List ℕ) → Own
-field_own desk p rows marks stores out = own p (row_of desk rows) (marks_of desk marks) (store_of desk stores) out
+abbrev pub own_at : (desk : ℕ) → Place → (rows marks stores out : List ℕ) → Own
+own_at desk p rows marks stores out = own p (row_of desk rows) (marks_of desk marks) (store_of desk stores) out
 
 -- `table` places are lent; a is what the desk makes of its own things
 abbrev pub settled_plan : (table : ℕ) → Place → (rows marks stores out : List ℕ) → Sender → (Own → After) → Plan
 settled_plan table p rows marks stores out who a =
     plan_of who.desk rows marks stores
     (gated (stranger (desks_of marks) who.desk or lacks (desks_of marks) table (length rows) (length marks) (length stores))
-    (field_own who.desk p rows marks stores out) who.time (a (field_own who.desk p rows marks stores out)))
+    (own_at who.desk p rows marks stores out) who.time (a (own_at who.desk p rows marks stores out)))
 
 -- a part
 abbrev pub part_of_rest : Arrival → (rest : List ℕ) → List ℕ
