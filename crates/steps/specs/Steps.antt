@@ -30,7 +30,7 @@ use Rattle.gate.specs.declared.Gate.TheVariants.{Through, Shut}
 use Rattle.gate.specs.Gate.{gate_of}
 use Rattle.steps.specs.Plan.{Plan, plan, plan_of, own_at, settled_plan, part_of_rest, part_planned, laid_plan, counted_plan}
 use Rattle.steps.specs.Plan.{pass_planned, Yield, yield, yield_of, counted_yield, yielding, place_after}
-use Rattle.gate.specs.Tests.{either, other, shut, clear}
+use Rattle.gate.specs.Tests.{Fits, FitsThree, either, other, shut, clear, fits, fits-three, gate-at}
 
 -- a part s[a..a + k] of k elements
 widths : (a k : ℕ) → a + k - a ≡ k
@@ -51,6 +51,16 @@ mark_at desk = head_size + marks_each * desk
 
 abbrev store_at : (desk : ℕ) → ℕ
 store_at desk = store_size * desk
+
+-- past the gate, and past the refusals of a give-up, the desk's things lie within what is lent
+pub room : (m : List ℕ) (n table rows stores desk out : ℕ) (g : Gate) → g ≡ gate_of n table rows (length m) stores desk out → n ≡ desks_of m
+    → g ≡ Through → Fits (desks_of m) table rows (length m) stores desk
+room m n table rows stores desk out g f e h = fits _ _ _ _ _ _ _ _ (gate-at _ _ _ _ _ _ _ _ _ _ f e refl) h
+
+pub room-three : (m : List ℕ) (n table rows desk : ℕ) (b d : Bool) → b ≡ stranger n desk → b ≡ false
+    → d ≡ lacks_three n table rows (length m) → d ≡ false → n ≡ desks_of m → FitsThree (desks_of m) table rows (length m) desk
+room-three m n table rows desk b d f h k l e =
+    rw (sym e) (fits-three n table rows (length m) desk (sym f ∙ h) (sym k ∙ l))
 
 -- ---- receive, whatever the desk makes of it
 module _ (table : ℕ) (p : Place) (rows marks stores out : List ℕ) (who : Sender) (a : Own → After) (g : Gate)
