@@ -1,4 +1,5 @@
 -- `boxes::step` meets its contract: each return stands at the row that answers there. Assumes nothing.
+use borrow.Author.Rules.{rules}
 use native.Mathlib.Omega.{arith}
 use mathlib.Core.Path.{refl}
 use Rattle.laws.specs.Rows.{yes, no, lt, ge, eq, ne}
@@ -19,7 +20,7 @@ returns c =
 
 pub returns-then-m-at : goal.returns-then-m-at
 unfolding step_of
-returns-then-m-at c = yes _ _ (lt _ _ (omega arith)) c.refused.ensures
+returns-then-m-at c = yes _ _ (lt _ _ (omega arith)) (search rules)
 
 pub returns-then-at-m : goal.returns-then-at-m
 unfolding step_of
