@@ -1,5 +1,5 @@
-// The relay over a table by value, for callers that keep it in a local: a covered function may name no reference to places, so the three
-// calls that lend the table are walked by hand here, and `hall` and `list` stand on them.
+// The relay over a table by value, for callers that keep it in a local: the three calls that lend the table, and `hall` and `list` stand
+// on them.
 #![tactic(auto)]
 
 ghost use Rattle.std.specs.Prelude.{◌≡◌};
