@@ -1,7 +1,7 @@
 /*
  * Spindlefig for C: a caption relay for up to eight desks, over memory that the caller lends.
  *
- * Link with libexport.a, which `rt staticlib export` writes to target/staticlib (x86-64).
+ * Link with libexport.a, which `host/build` writes to target/staticlib (x86-64).
  *
  * A slice goes as a pointer and a length, counted in elements: so much memory is there, the pointer is not null even where the length
  * is 0, and slices of one call do not overlap. Places are cleared to zeros before set-up and then left to the relay. This is C's share;

@@ -1,4 +1,4 @@
-// A relay with its memory for eight desks and an output in one value, for programs: covered code over `held`, with no walk of its own.
+// A relay with its memory for eight desks and an output in one value, for programs, over `held`.
 #![tactic(auto)]
 
 ghost use Rattle.std.specs.Prelude.{◌≡◌, replicate};

@@ -14,24 +14,6 @@ loop-k-init c =
     let e : n - 0 ≡ n = omega arith in
     (omega arith, (omega arith, (omega arith, (rw e (omega arith), rw e (omega arith)))))
 
--- UNKNOWN-Need-overflow-add-string
---     let k = c.loop-k.k in
---     let a = c.args in
---     omega (
---       arith,
---       ap length c.cut-many.ensures,
---       length-part-all (get_or a.starts.now k 0) (get_or a.lens.now k 0) a.bytes.now,
---     )
-
--- UNKNOWN-Need-overflow-add-sample
---     let k = c.loop-k.k in
---     let a = c.args in
---     omega (
---       arith,
---       ap length c.cut-many.ensures,
---       length-part-all (get_or a.starts.now k 0) (get_or a.lens.now k 0) a.bytes.now,
---     )
-
 pub loop-k-preserved : goal.loop-k-preserved
 loop-k-preserved c =
     let l = c.loop-k in
