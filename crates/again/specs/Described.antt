@@ -1,4 +1,5 @@
 -- What the writer writes for a description is read as it, and stored and shown as it. Assumes nothing.
+use Rattle.writer.specs.Written.{packed}
 use Rattle.std.specs.Prelude.{ℕ, ◌*◌, ◌≤◌, ◌≡◌, refl, false, ◌⊎◌, List, [], ◌++◌, length, take}
 use Rattle.std.proofs.Common.{arith}
 use Rattle.laws.specs.Exactly.{Exactly}
@@ -8,7 +9,6 @@ use Rattle.text.proofs.Strings.{empty-well}
 use Rattle.unit.specs.Layout.{description, reading, read_of, data_of}
 use Rattle.unit.specs.Again.{Proper, description-unit}
 use Rattle.unit.proofs.Again.{unit-again, data-again}
-use Rattle.writer.specs.declared.Written.TheVariants.{Payload}
 use Rattle.writer.specs.Write.{described}
 use Rattle.writer.specs.Answers.{DescriptionWritten}
 use Rattle.writer.proofs.Answers.{described-written}
@@ -29,7 +29,7 @@ pub record DescribedAgain (SIDX : ℕ) (d p : List ℕ) (len N : ℕ) : Type 0 w
       → ((noted store newest SIDX d).answer.outcome ≡ O.Described) ⊎ ((noted store newest SIDX d).answer.outcome ≡ O.Repeat)
       → shown book (noted store newest SIDX d).store (noted store newest SIDX d).answer.newest SIDX ≡ d
 
-pub described-again : (SIDX : ℕ) (d : List ℕ) (M k : ℕ) (out : List ℕ) (len N : ℕ) → (described SIDX d M k out).answer ≡ Payload len N
+pub described-again : (SIDX : ℕ) (d : List ℕ) (M k : ℕ) (out : List ℕ) (len N : ℕ) → (described SIDX d M k out).answer ≡ packed len N
     → DescribedAgain SIDX d (take len (described SIDX d M k out).out) len N
 described-again SIDX d M k out len N e =
     let w : DescriptionWritten SIDX d M k out (described SIDX d M k out).out len N = described-written SIDX d M k out len N e in

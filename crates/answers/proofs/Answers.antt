@@ -1,9 +1,8 @@
 -- The relay's answer to a unit as numbers: a lent row gets the values one after the other. Assumes nothing.
-use Rattle.std.specs.Prelude.{ℕ, ◌≡◌, refl, List, ◌∷◌, ◌++◌, set}
+use Rattle.std.specs.Prelude.{ℕ, ◌≡◌, refl, List, ◌∷◌, ◌++◌, set, Some, None}
 use Rattle.std.proofs.lemmas.List.Edits.{sets}
 use Rattle.paper.specs.Words.{kind_of, values_of}
-use Rattle.paper.specs.declared.Time.{Time}
-use Rattle.paper.specs.declared.Time.TheVariants.{Known, Unknown}
+use Rattle.paper.specs.Time.{Time}
 use Rattle.paper.specs.declared.Answer.{Answer}
 use Rattle.answers.specs.Answers.{time_row, answer_row}
 
@@ -15,5 +14,5 @@ answer-rows a row = go a.next
   where
     go : (t : Time) → sets (set (sets (set row 0 a.used) 1 (time_row t)) 3 (kind_of a.outcome)) 4 (values_of a.outcome)
         ≡ sets row 0 (a.used ∷ time_row t ++ kind_of a.outcome ∷ values_of a.outcome)
-    go (Known time) = refl
-    go Unknown = refl
+    go (Some time) = refl
+    go None = refl

@@ -1,8 +1,7 @@
 -- A row of the exported length takes all of an answer. Assumes nothing.
-use Rattle.std.specs.Prelude.{◌≤◌, ◌∷◌, ◌++◌, length}
+use Rattle.std.specs.Prelude.{◌≤◌, ◌∷◌, ◌++◌, length, Some, None}
 use Rattle.std.proofs.Common.{arith}
-use Rattle.paper.specs.declared.Time.{Time}
-use Rattle.paper.specs.declared.Time.TheVariants.{Known, Unknown}
+use Rattle.paper.specs.Time.{Time}
 use Rattle.paper.specs.declared.Answer.{Answer}
 use Rattle.paper.specs.declared.Outcome.{Outcome}
 use Rattle.paper.specs.declared.Outcome.TheVariants.{End, Whole, Joined, Kept, Repeat, Described, Skipped, Refused}
@@ -23,5 +22,5 @@ row-holds a = at-time a.next
     holds (Refused r) = omega arith
 
     at-time : (t : Time) → length (a.used ∷ time_row t ++ kind_of a.outcome ∷ values_of a.outcome) ≤ row_most
-    at-time (Known time) = omega (arith, holds a.outcome)
-    at-time Unknown = omega (arith, holds a.outcome)
+    at-time (Some time) = omega (arith, holds a.outcome)
+    at-time None = omega (arith, holds a.outcome)

@@ -38,11 +38,11 @@ fn put_time(row: &mut [u64], t: Time)
     ensures { row.new ≡ sets row.old 1 (time_row t) }
 {
     match t {
-        Time::Known(time) => {
+        Some(time) => {
             numbers::put_at(row, 1, 1);
             numbers::put_at(row, 2, time as usize);
         }
-        Time::Unknown => {
+        None => {
             numbers::put_at(row, 1, 0);
             numbers::put_at(row, 2, 0);
         }

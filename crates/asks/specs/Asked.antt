@@ -1,10 +1,9 @@
 -- What the questions and the answer of a call tell, in the code's own values. Assumes nothing.
-use Rattle.std.specs.Prelude.{◌≡◌, ℕ, Bool, true, false, List, refl}
+use Rattle.std.specs.Prelude.{◌≡◌, ℕ, Bool, true, false, List, refl, Some, None}
 use Rattle.std.proofs.Common.{ap}
 use Rattle.paper.specs.declared.Outcome.{Outcome}
 use Rattle.paper.specs.declared.Refusal.TheVariants as R
-use Rattle.paper.specs.declared.Time.{Time}
-use Rattle.paper.specs.declared.Time.TheVariants.{Known, Unknown}
+use Rattle.paper.specs.Time.{Time}
 use Rattle.unit.specs.declared.Part.{Part}
 use Rattle.laws.specs.Rows.{◌⇒◌⁏◌}
 use Rattle.sample.specs.declared.Head.{Head}
@@ -32,10 +31,10 @@ conflicts-any h kinds starts lens bytes x = rw (has-any h kinds starts lens byte
 
 -- ---- the time: a text unit is taken at a known one, and refused at an unknown one
 module _ (s : Own) (t : Time) (used : ℕ) (at : (time : ℕ) → After) where
-  pub timed-known : (time : ℕ) → t ≡ Known time → at time ≡ timed s t used at
+  pub timed-known : (time : ℕ) → t ≡ Some time → at time ≡ timed s t used at
   timed-known time e = rw e
 
-  pub timed-unknown : t ≡ Unknown → refuse s used Unknown R.Untimed ≡ timed s t used at
+  pub timed-unknown : t ≡ None → refuse s used None R.Untimed ≡ timed s t used at
   timed-unknown e = rw e
 
 -- ---- in a place that nothing was made of, nothing changes

@@ -1,2 +1,3 @@
+pub mod Bar
 pub mod Settled
 pub mod Asked

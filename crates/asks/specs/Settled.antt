@@ -1,10 +1,11 @@
 -- One call's work for one desk where its sample stands in a table: what the call finds there, and what it leaves. Assumes nothing.
-use Rattle.std.specs.Prelude.{ℕ, Bool, List}
+use Rattle.asks.specs.Bar.{Free}
+use Rattle.std.specs.Prelude.{ℕ, Bool, List, Err}
 use Rattle.std.specs.Borrow.{MutBor}
 use denote.Triple.Both.{Both}
 use Rattle.laws.specs.Rows.{◌⇒◌⁏◌}
 use Rattle.paper.specs.declared.Refusal.TheVariants as R
-use Rattle.paper.specs.declared.Time.{Time}
+use Rattle.paper.specs.Time.{Time}
 use Rattle.paper.specs.declared.Outcome.{Outcome}
 use Rattle.paper.specs.declared.Outcome.TheVariants as O
 use Rattle.unit.specs.declared.Part as P
@@ -19,8 +20,7 @@ use Rattle.desk.specs.declared.Shares.{Shares}
 use Rattle.desk.specs.Desk.{Own, After, own, says, stay, six, used_up, part_at, taken, is_part}
 use Rattle.asks.specs.declared.Arrival.{Arrival}
 use Rattle.asks.specs.declared.Settled.{Settled}
-use Rattle.asks.specs.declared.Bar.{Bar}
-use Rattle.asks.specs.declared.Bar.TheVariants as B
+use Rattle.asks.specs.Bar.{Bar}
 
 -- ---- a place whose numbers go by value and whose arrays are lent: before the call, and after it
 abbrev Array : Type 0
@@ -55,11 +55,11 @@ opening h row marks store out desk t x d = part_at h (own closed row marks store
 -- what bars it, in the order of refusals: 6, 5, 8, 9; it is no repeat, and conflicts with nothing
 unfoldable pub barred : (late over : Bool) → Shares → Bar
 barred late over h =
-    late ⇒ B.Refused R.Late
-    ⁏ over ⇒ B.Refused R.Size
-    ⁏ six closed h ⇒ B.Refused R.Six
-    ⁏ used_up closed h ⇒ B.Refused R.Common
-    ⁏ B.Free
+    late ⇒ Err R.Late
+    ⁏ over ⇒ Err R.Size
+    ⁏ six closed h ⇒ Err R.Six
+    ⁏ used_up closed h ⇒ Err R.Common
+    ⁏ Free
 
 -- ---- a unit that was read
 abbrev pub no_part : P.Part

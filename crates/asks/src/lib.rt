@@ -28,13 +28,6 @@ pub struct Arrival {
     pub part: Part,
 }
 
-// What bars a part that opens a sample.
-#[derive(Clone, Copy)]
-pub enum Bar {
-    Free,
-    Refused(Refusal),
-}
-
 pub fn said(head: Head, used: usize, next: Time, outcome: Outcome) -> Settled
     ensures { result ≡ settled head used next outcome }
 {
@@ -68,9 +61,9 @@ pub fn add_time(time: u32, sdur: usize) -> Time
     ensures { result ≡ later time sdur }
 {
     if sdur == 0 {
-        return Time::Unknown;
+        return None;
     }
-    Time::Known(std::num::wrapping_add_u32(time, (sdur % 4294967296) as u32))
+    Some(std::num::wrapping_add_u32(time, (sdur % 4294967296) as u32))
 }
 
 pub fn next_time(time: u32, x: Part) -> Time
@@ -79,7 +72,7 @@ pub fn next_time(time: u32, x: Part) -> Time
     if x.this == x.total {
         return add_time(time, x.sdur);
     }
-    Time::Known(time)
+    Some(time)
 }
 
 pub fn does_conflict(q: Head, x: Part) -> bool
@@ -119,22 +112,22 @@ fn is_used_up(h: Shares) -> bool
 }
 
 // What bars a part that opens a sample, in the order of refusals.
-pub fn find_bar(late: bool, over: bool, h: Shares) -> Bar
+pub fn find_bar(late: bool, over: bool, h: Shares) -> Result<(), Refusal>
     ensures { result ≡ barred late over h }
 {
     if late {
-        return Bar::Refused(Refusal::Late);
+        return Err(Refusal::Late);
     }
     if over {
-        return Bar::Refused(Refusal::Size);
+        return Err(Refusal::Size);
     }
     if has_six(h) {
-        return Bar::Refused(Refusal::Six);
+        return Err(Refusal::Six);
     }
     if is_used_up(h) {
-        return Bar::Refused(Refusal::Common);
+        return Err(Refusal::Common);
     }
-    Bar::Free
+    Ok(())
 }
 
 // Whether the unit is a part.

@@ -1,5 +1,6 @@
 -- A part of a sample that is not open: what bars it, and what stands in the free place. In the code's own values. Assumes nothing.
-use Rattle.std.specs.Prelude.{ℕ, ◌<◌, ◌≡◌, Bool, List, length, replicate}
+use Rattle.asks.specs.Bar.{Free}
+use Rattle.std.specs.Prelude.{ℕ, ◌<◌, ◌≡◌, Bool, List, length, replicate, Ok, Err}
 use Rattle.std.proofs.Math.Path.{refl, ap}
 use Rattle.std.proofs.Common.{sym, ◌∙◌, true≢false}
 use Rattle.std.proofs.Math.Bool.{true, false}
@@ -7,7 +8,7 @@ use Rattle.laws.specs.Rows.{◌⇒◌⁏◌, yes, lt}
 use Rattle.paper.specs.Limits.{sample_most, parts_most}
 use Rattle.paper.specs.declared.Refusal.{Refusal}
 use Rattle.paper.specs.declared.Refusal.TheVariants as R
-use Rattle.paper.specs.declared.Time.{Time}
+use Rattle.paper.specs.Time.{Time}
 use Rattle.paper.specs.declared.Outcome.TheVariants as O
 use Rattle.paper.specs.declared.Answer.{Answer}
 use Rattle.unit.specs.declared.Part.{Part}
@@ -21,8 +22,7 @@ use Rattle.sample.specs.Told.{Name, keep-named}
 use Rattle.sample.specs.Missing.{opened-missing}
 use Rattle.desk.specs.declared.Shares.{Shares}
 use Rattle.desk.specs.Desk.{Own, After, own, answering, turn, left, refuse, is_late, conflicts, six, used_up, completed, joining}
-use Rattle.asks.specs.declared.Bar.{Bar}
-use Rattle.asks.specs.declared.Bar.TheVariants as B
+use Rattle.asks.specs.Bar.{Bar}
 use Rattle.asks.specs.Settled.{laid, laid_in, barred}
 
 -- ---- a new place, from its numbers and arrays
@@ -83,8 +83,8 @@ module _ (h : Shares) (row marks store out : List ℕ) (desk time used : ℕ) (n
   new = opened desk time x
 
   abbrev unbarred : Bar → After
-  unbarred (B.Refused r) = refuse s used next r
-  unbarred B.Free = completed s time used next (kept new x d)
+  unbarred (Err r) = refuse s used next r
+  unbarred (Ok u) = completed s time used next (kept new x d)
 
   opens : unbarred (barred (is_late s time) (oversize new x (length d)) h) ≡ joining h s time used next new x d
   unfolding barred joining ◌⇒◌⁏◌
@@ -93,7 +93,7 @@ module _ (h : Shares) (row marks store out : List ℕ) (desk time used : ℕ) (n
       (go (is_late s time) (oversize new x (length d)) (six closed h) (used_up closed h))
     where
       go : (a b c e : Bool)
-          → unbarred (a ⇒ B.Refused R.Late ⁏ b ⇒ B.Refused R.Size ⁏ c ⇒ B.Refused R.Six ⁏ e ⇒ B.Refused R.Common ⁏ B.Free)
+          → unbarred (a ⇒ Err R.Late ⁏ b ⇒ Err R.Size ⁏ c ⇒ Err R.Six ⁏ e ⇒ Err R.Common ⁏ Free)
           ≡ (a ⇒ refuse s used next R.Late ⁏ b ⇒ refuse s used next R.Size ⁏ c ⇒ refuse s used next R.Six
           ⁏ e ⇒ refuse s used next R.Common ⁏ completed s time used next (kept new x d))
       go true b c e = refl
@@ -111,13 +111,13 @@ module _ (h : Shares) (row marks store out : List ℕ) (desk time used : ℕ) (n
         found ∙ rw (late, over, over-alone desk time x n New-is (length d)) in
         ap unbarred e ∙ opens
 
-    pub opens_not : (r : Refusal) → g ≡ B.Refused r → refuse s used next r ≡ joining h s time used next new x d
+    pub opens_not : (r : Refusal) → g ≡ Err r → refuse s used next r ≡ joining h s time used next new x d
     opens_not r e = ap unbarred (sym e) ∙ found-is
 
-    pub opens-now : g ≡ B.Free → completed s time used next (kept new x d) ≡ joining h s time used next new x d
+    pub opens-now : g ≡ Free → completed s time used next (kept new x d) ≡ joining h s time used next new x d
     opens-now e = ap unbarred (sym e) ∙ found-is
 
-    pub opens_kept : g ≡ B.Free → 1 < x.total → (k : Head) (kinds starts lens bytes : List ℕ)
+    pub opens_kept : g ≡ Free → 1 < x.total → (k : Head) (kinds starts lens bytes : List ℕ)
         → whole k kinds starts lens bytes ≡ kept new x d → (m : ℕ) → m ≡ missing (alone k)
         → left (answering (whole k kinds starts lens bytes) used next (O.Kept m)) row marks store out ≡ joining h s time used next new x d
     opens_kept e more k kinds starts lens bytes is m are =

@@ -6,7 +6,7 @@ ghost use Rattle.sample.specs.Place.{closed, opened};
 ghost use Rattle.desk.specs.Desk.{own, turn, left, joining};
 ghost use Rattle.asks.specs.Settled.{before, after, laid_in};
 
-use asks::{Bar, Settled};
+use asks::Settled;
 use desk::Shares;
 use paper::limits::{PARTS_MOST, SAMPLE_MOST};
 use paper::{Outcome, Time};
@@ -43,8 +43,8 @@ pub fn open(
     let late = asks::is_late(row, marks, time);
     let bar = asks::find_bar(late, parts::oversize(new, x, d.len()), h);
     match bar {
-        Bar::Refused(why) => asks::said(q, used, next, Outcome::Refused(why)),
-        Bar::Free => {
+        Err(why) => asks::said(q, used, next, Outcome::Refused(why)),
+        Ok(()) => {
             bare::clear(kinds, starts, lens, bytes);
             let k = keeps::keep(new, kinds, starts, lens, bytes, x, d);
             asks::said(k, used, next, Outcome::Kept(keeps::missing(k)))

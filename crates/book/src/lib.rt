@@ -7,7 +7,7 @@ ghost use Rattle.style.specs.Book.{broken, falling, bad_record, count_of, check_
 
 use paper::Refusal;
 use paper::limits::{DESCRIPTION_MOST, IN_BAND, RECORD_SIZE, RESERVED};
-use style::Checked;
+use style::BadRecord;
 
 fn is_filled(s: &[u8]) -> bool
     ensures { result ≡ filled s.now }
@@ -80,18 +80,18 @@ fn count(book: &[u8]) -> usize
 }
 
 // Checks a style book, record by record.
-pub fn check(book: &[u8]) -> Checked
+pub fn check(book: &[u8]) -> Result<usize, BadRecord>
     ensures { result ≡ check_of book.now }
 {
     let n = count(book);
     let mut i = 0;
     while i < n {
         if bad_record(book, i) {
-            return Checked::Refused(Refusal::Book, i);
+            return Err(BadRecord { why: Refusal::Book, at: i });
         }
         i += 1;
     }
-    Checked::Good(n)
+    Ok(n)
 }
 
 // The description of the first of n records that has the index.
@@ -113,7 +113,7 @@ pub fn of_book(book: &[u8], index: usize) -> &[u8]
     ensures { result.now ≡ entry_of book.now index (check_of book.now) }
 {
     match check(book) {
-        Checked::Good(n) => entry(book, index, n),
-        Checked::Refused(_, _) => octets::cut(book, 0, 0),
+        Ok(n) => entry(book, index, n),
+        Err(_) => octets::cut(book, 0, 0),
     }
 }

@@ -1,6 +1,6 @@
 -- 'Box again': a box that is put down is found as what it is, whatever stands before it and follows it, and boxes put down one after
 -- the other are walked as that list. Assumes nothing.
-use Rattle.std.specs.Prelude.{ℕ, zero, suc, ◌+◌, ◌-◌, ◌*◌, ◌/◌, ◌%◌, ◌<◌, ◌≤◌, ◌≡◌, refl, List, [], ◌∷◌, ◌++◌, take}
+use Rattle.std.specs.Prelude.{ℕ, zero, suc, ◌+◌, ◌-◌, ◌*◌, ◌/◌, ◌%◌, ◌<◌, ◌≤◌, ◌≡◌, refl, List, [], ◌∷◌, ◌++◌, take, Some, None, Ok}
 use native.Mathlib.Omega.{arith}
 use Rattle.std.proofs.Math.Path.{sym}
 use Rattle.std.proofs.Common.{ap, ◌∙◌, append_assoc, length-append, get_or-append-add, take_at}
@@ -9,8 +9,7 @@ use Rattle.std.proofs.Math.Seq.{drop-append_seam, drop-append-add}
 use Rattle.laws.specs.Rows.{yes, no, ge, eq, ne}
 use Rattle.laws.specs.Region.{part}
 use Rattle.octets.specs.Be.{u8_at, u32_at}
-use Rattle.boxes.specs.declared.Found.{Found}
-use Rattle.boxes.specs.declared.Found.TheVariants.{End, Box}
+use Rattle.boxes.specs.Found.{Found}
 use Rattle.boxes.specs.declared.Stepped.{Stepped}
 use Rattle.boxes.specs.Step.{header_size, size_at, type_at, finds, step_of, contents_of, Says}
 use Rattle.boxes.proofs.Stepping.{box-is, contents-is, step-says}
@@ -51,7 +50,7 @@ module _ (before : List ℕ) (t : ℕ) (c more : List ℕ) (small : t < numbers3
   length-all = simp length-append (omega arith)
 
   -- it is found as a box of its type, and the next place is behind it
-  pub box-found : step_of all (length before) ≡ finds (Box t) (length before + header_size + length c)
+  pub box-found : step_of all (length before) ≡ finds (Ok (Some t)) (length before + header_size + length c)
   unfolding step_of
   box-found =
       let l = length-all in
@@ -63,32 +62,32 @@ module _ (before : List ℕ) (t : ℕ) (c more : List ℕ) (small : t < numbers3
       (no _ _ (ge _ _ (omega arith))
       (no _ _ (ge _ _ (omega arith))
       (no _ _ (ge _ _ (omega arith))
-      (ap (finds (Box t)) n ∙ box-is all (length before) (header_size + length c) t s type-is))))))
+      (ap (finds (Ok (Some t))) n ∙ box-is all (length before) (header_size + length c) t s type-is))))))
 
   -- and its contents are shown
   pub box-shown : contents_of all (length before) ≡ c
   box-shown =
       let n : size_at all (length before) - header_size ≡ length c = omega (arith, size_is) in
-      sym (contents-is all (length before) (step_of all (length before)) (Box t) refl (ap (λ (s : Stepped). s.found) box-found))
+      sym (contents-is all (length before) (step_of all (length before)) (Ok (Some t)) refl (ap (λ (s : Stepped). s.found) box-found))
       ∙ ap (λ (k : ℕ). part (length before + header_size) k all) n
       ∙ ap (λ (l : List ℕ). take (length c) l) (drop-append-add before (box_of t c ++ more) header_size)
       ∙ take_at c more (length c) refl
 
 -- ---- where a box is found, its contents run from behind its header to the next place
-pub contents-run : (m : List ℕ) (at : ℕ) {t : ℕ} → (step_of m at).found ≡ Box t
+pub contents-run : (m : List ℕ) (at : ℕ) {t : ℕ} → (step_of m at).found ≡ Ok (Some t)
     → contents_of m at ≡ part (at + header_size) ((step_of m at).next - (at + header_size)) m
 contents-run m at {t} e =
-    let w : Says m at (Box t) (step_of m at).next = rw e at (step-says m at) in
+    let w : Says m at (Ok (Some t)) (step_of m at).next = rw e at (step-says m at) in
     let n : size_at m at - header_size ≡ (step_of m at).next - (at + header_size) = omega arith in
-    sym (contents-is m at (step_of m at) (Box t) refl e) ∙ ap (λ (k : ℕ). part (at + header_size) k m) n
+    sym (contents-is m at (step_of m at) (Ok (Some t)) refl e) ∙ ap (λ (k : ℕ). part (at + header_size) k m) n
 
-put-end : (before : List ℕ) → (step_of (before ++ []) (length before)).found ≡ End
+put-end : (before : List ℕ) → (step_of (before ++ []) (length before)).found ≡ (Ok None)
 unfolding step_of
 put-end before =
     let l : length (before ++ []) ≡ length before = simp length-append (omega arith) in
     ap (λ (s : Stepped). s.found) (sym (no _ _ (ge _ _ (omega arith)) (yes _ _ (eq _ _ (omega arith)) refl)))
 
-onward-box : {f : Found} {t : ℕ} {a b : Shown} {v w : Walk} → f ≡ Box t → a ≡ b → v ≡ w
+onward-box : {f : Found} {t : ℕ} {a b : Shown} {v w : Walk} → f ≡ Ok (Some t) → a ≡ b → v ≡ w
     → onward f a v ≡ record { boxes = b ∷ w.boxes; ended = w.ended }
 onward-box e p q = rw (e, p, q)
 
@@ -117,5 +116,5 @@ boxes-few [] = omega arith
 boxes-few (b ∷ bs) = simp length-append (omega (arith, boxes-few bs))
 
 -- boxes that are put down one after the other are walked as that list, to the end
-pub boxes-again : (bs : List Put) → walk (boxes_of bs) 0 ≡ record { boxes = shown_of bs; ended = End }
+pub boxes-again : (bs : List Put) → walk (boxes_of bs) 0 ≡ record { boxes = shown_of bs; ended = (Ok None) }
 boxes-again bs = walk-of bs (length (boxes_of bs)) [] (boxes-few bs)

@@ -1,9 +1,8 @@
 -- 'Box again': a box that is put down is found as what it is, whatever stands before it and follows it, and boxes put down one after
 -- the other are walked as that list. Assumes nothing.
-use Rattle.std.specs.Prelude.{ℕ, ◌+◌, ◌<◌, List, [], ◌∷◌, ◌++◌}
+use Rattle.std.specs.Prelude.{ℕ, ◌+◌, ◌<◌, List, [], ◌∷◌, ◌++◌, None, Ok}
 use Rattle.std.proofs.Math.ListN.{length}
 use Rattle.octets.specs.Be.{be32}
-use Rattle.boxes.specs.declared.Found.TheVariants.{End}
 use Rattle.boxes.specs.Step.{header_size}
 use Rattle.boxes.specs.Walk.{Shown, Walk}
 
@@ -35,4 +34,4 @@ shown_of [] = []
 shown_of (b ∷ bs) = record { header = box_head b.type b.contents; contents = b.contents } ∷ shown_of bs
 
 abbrev pub walked_as : List Put → Walk
-walked_as bs = record { boxes = shown_of bs; ended = End }
+walked_as bs = record { boxes = shown_of bs; ended = (Ok None) }

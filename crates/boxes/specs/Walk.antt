@@ -1,10 +1,9 @@
 -- The whole walk, box after box, and that nothing of the modifiers is lost in it. Assumes nothing.
-use Rattle.std.specs.Prelude.{ℕ, zero, suc, ◌⊎◌, List, [], ◌∷◌, ◌++◌, length}
+use Rattle.std.specs.Prelude.{ℕ, zero, suc, ◌⊎◌, List, [], ◌∷◌, ◌++◌, length, Some, None, Ok, Err}
 use Rattle.std.proofs.Math.Path.{◌≡◌}
 use Rattle.laws.specs.Region.{part}
 use Rattle.paper.specs.declared.Refusal.TheVariants as R
-use Rattle.boxes.specs.declared.Found.{Found}
-use Rattle.boxes.specs.declared.Found.TheVariants.{End, Box, Refused}
+use Rattle.boxes.specs.Found.{Found}
 use Rattle.boxes.specs.Step.{header_size, step_of, contents_of}
 
 -- a box as the walk shows it
@@ -22,9 +21,9 @@ pub record Walk : Type 0 where
 
 -- a box goes in front of the walk from the next place; anything else ends the walk
 abbrev pub onward : Found → Shown → Walk → Walk
-onward End b w = record { boxes = []; ended = End }
-onward (Box t) b w = record { boxes = b ∷ w.boxes; ended = w.ended }
-onward (Refused r) b w = record { boxes = []; ended = Refused r }
+onward (Ok None) b w = record { boxes = []; ended = (Ok None) }
+onward (Ok (Some t)) b w = record { boxes = b ∷ w.boxes; ended = w.ended }
+onward (Err r) b w = record { boxes = []; ended = Err r }
 
 -- n boxes at most
 unfoldable pub walk_of : ℕ → List ℕ → ℕ → Walk
@@ -42,4 +41,4 @@ together (b ∷ bs) = b.header ++ (b.contents ++ together bs)
 
 -- ---- and a walk comes to its end: there, or at a place that is refused
 abbrev pub Stops : Found → Type 0
-Stops f = (f ≡ End) ⊎ (f ≡ Refused R.Box)
+Stops f = (f ≡ (Ok None)) ⊎ (f ≡ Err R.Box)

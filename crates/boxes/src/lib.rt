@@ -6,18 +6,11 @@ ghost use Rattle.boxes.specs.Step.{refused_at, step_of, contents_of};
 
 use paper::Refusal;
 
-#[derive(Clone, Copy)]
-pub enum Found {
-    End,
-    // the four bytes of the type, as a big-endian number
-    Box(usize),
-    Refused(Refusal),
-}
-
-// What stands at a place, and the place of the next box; at the end and on refusal that is the place given.
+// What stands at a place: a box by its type, the four bytes as a big-endian number; the end; or a refusal. And the place of the next box;
+// at the end and on refusal that is the place given.
 #[derive(Clone, Copy)]
 pub struct Stepped {
-    pub found: Found,
+    pub found: Result<Option<usize>, Refusal>,
     pub next: usize,
 }
 
@@ -27,7 +20,7 @@ fn refused(at: usize) -> Stepped
     ensures { result ≡ refused_at at }
 {
     Stepped {
-        found: Found::Refused(Refusal::Box),
+        found: Err(Refusal::Box),
         next: at,
     }
 }
@@ -40,7 +33,7 @@ pub fn step(m: &[u8], at: usize) -> Stepped
     }
     if at == m.len() {
         return Stepped {
-            found: Found::End,
+            found: Ok(None),
             next: at,
         };
     }
@@ -56,7 +49,7 @@ pub fn step(m: &[u8], at: usize) -> Stepped
         return refused(at);
     }
     Stepped {
-        found: Found::Box(octets::number32(m, at + 4)),
+        found: Ok(Some(octets::number32(m, at + 4))),
         next: at + size,
     }
 }
@@ -67,11 +60,11 @@ pub fn contents(m: &[u8], at: usize) -> &[u8]
 {
     let found = step(m, at).found;
     match found {
-        Found::Box(_) => {
+        Ok(Some(_)) => {
             let size = octets::number32(m, at);
             octets::cut(m, at + HEADER_SIZE, octets::less(size, HEADER_SIZE))
         }
-        Found::End => octets::cut(m, at, 0),
-        Found::Refused(_) => octets::cut(m, at, 0),
+        Ok(None) => octets::cut(m, at, 0),
+        Err(_) => octets::cut(m, at, 0),
     }
 }

@@ -9,7 +9,7 @@ ghost use Rattle.writer.specs.Write.{caption, long, unwritable, after, written};
 
 use paper::Refusal;
 use paper::limits::PARTS_MOST;
-use writer::{PartFound, Written};
+use writer::{PartFound, Payload};
 
 // How many blocks of k bytes n bytes make, the last perhaps shorter.
 fn block_count(n: usize, k: usize) -> usize
@@ -31,20 +31,20 @@ fn write_part(
     total: usize,
     number: usize,
     out: &mut [u8],
-) -> Written
+) -> Result<Payload, Refusal>
     requires { Counted (caption u sidx sdur string.now modifiers.now) m number out.old f total }
     ensures { after result out.new
         ≡ written (caption u sidx sdur string.now modifiers.now) m number out.old }
 {
     if number == 0 {
-        return Written::Refused(Refusal::Payload);
+        return Err(Refusal::Payload);
     }
     if total < number {
-        return Written::Refused(Refusal::Payload);
+        return Err(Refusal::Payload);
     }
     if number <= f.count {
         let len = sends::send_string(u, sidx, sdur, string, modifiers, f, total, number, out);
-        return Written::Payload { len, count: total };
+        return Ok(Payload { len, count: total });
     }
     let len = sends::send_block(
         sdur,
@@ -55,7 +55,7 @@ fn write_part(
         number,
         out,
     );
-    Written::Payload { len, count: total }
+    Ok(Payload { len, count: total })
 }
 
 // A sample that does not fit: the parts are counted, and the one of the number is written.
@@ -68,7 +68,7 @@ pub fn write_cut(
     m: usize,
     number: usize,
     out: &mut [u8],
-) -> Written
+) -> Result<Payload, Refusal>
     requires out_value { unwritable (caption u sidx sdur string.now modifiers.now) m (length out.old) ≡ false }
     requires writable { Writable (caption u sidx sdur string.now modifiers.now) m (length out.old) }
     requires m_value { long (caption u sidx sdur string.now modifiers.now) m ≡ true }
@@ -76,12 +76,12 @@ pub fn write_cut(
         ≡ written (caption u sidx sdur string.now modifiers.now) m number out.old }
 {
     if string.len() == 0 {
-        return Written::Refused(Refusal::Parts);
+        return Err(Refusal::Parts);
     }
     let f = passes::find(u, string, m - 10, number);
     let total = f.count + block_count(modifiers.len(), m - 7);
     if PARTS_MOST < total {
-        return Written::Refused(Refusal::Parts);
+        return Err(Refusal::Parts);
     }
     write_part(u, sidx, sdur, string, modifiers, m, f, total, number, out)
 }

@@ -6,17 +6,17 @@ ghost use Rattle.writer.specs.Write.{after, described};
 
 use paper::Refusal;
 use unit::{Description, Unit};
-use writer::Written;
+use writer::Payload;
 
 // Writes the one payload of a description for the size limit m.
-pub fn write_description(sidx: usize, d: &[u8], m: usize, number: usize, out: &mut [u8]) -> Written
+pub fn write_description(sidx: usize, d: &[u8], m: usize, number: usize, out: &mut [u8]) -> Result<Payload, Refusal>
     ensures { after result out.new ≡ described sidx d.now m number out.old }
 {
     if allows::is_undescribed(sidx, d.len(), m, out.len()) {
-        return Written::Refused(Refusal::Writer);
+        return Err(Refusal::Writer);
     }
     if m < d.len() + 4 {
-        return Written::Refused(Refusal::Parts);
+        return Err(Refusal::Parts);
     }
     if number == 1 {
         let x = Unit::Description(Description {
@@ -25,7 +25,7 @@ pub fn write_description(sidx: usize, d: &[u8], m: usize, number: usize, out: &m
             len: d.len(),
         });
         let len = lays::lay(out, x, d);
-        return Written::Payload { len, count: 1 };
+        return Ok(Payload { len, count: 1 });
     }
-    Written::Refused(Refusal::Payload)
+    Err(Refusal::Payload)
 }

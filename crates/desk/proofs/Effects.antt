@@ -1,6 +1,6 @@
 -- What every call of a desk keeps to: the effect of a refusal, progress, the missing count, and what the common use can change.
 -- Assumes nothing.
-use Rattle.std.specs.Prelude.{ℕ, ◌≤◌, ◌<◌, ◌≡◌, refl, true, not, List, length}
+use Rattle.std.specs.Prelude.{ℕ, ◌≤◌, ◌<◌, ◌≡◌, refl, true, not, List, length, Some, None}
 use Rattle.std.proofs.Common.{arith, sym, ap, ◌∙◌}
 use Rattle.std.proofs.lemmas.List.Edits.{sets}
 use Rattle.std.proofs.lemmas.List.{set-get_or}
@@ -9,8 +9,7 @@ use Rattle.paper.specs.Limits.{own_places}
 use Rattle.paper.specs.Words.{number_of, kind_of}
 use Rattle.paper.specs.declared.Refusal.{Refusal}
 use Rattle.paper.specs.declared.Refusal.TheVariants as R
-use Rattle.paper.specs.declared.Time.{Time}
-use Rattle.paper.specs.declared.Time.TheVariants.{Known, Unknown}
+use Rattle.paper.specs.Time.{Time}
 use Rattle.paper.specs.declared.Outcome.{Outcome}
 use Rattle.paper.specs.declared.Outcome.TheVariants as O
 use Rattle.unit.specs.declared.Whole as W
@@ -43,27 +42,27 @@ no-refusal : (s o : Own) (t : Time) (used : ℕ) (next : Time) (x : Outcome) →
     → Effect s t (record { own = o; answer = record { used = used; next = next; outcome = x } })
 no-refusal s o t used next x k r e = absurd (omega (arith, ap kind_of e))
 
-whole-effect : (s : Own) (time used : ℕ) (next : Time) (w : W.Whole) (d : List ℕ) → Effect s (Known time) (whole_taken s time used next w d)
+whole-effect : (s : Own) (time used : ℕ) (next : Time) (w : W.Whole) (d : List ℕ) → Effect s (Some time) (whole_taken s time used next w d)
 unfolding whole_taken
 whole-effect s time used next w d =
-    let E = Effect s (Known time) in
+    let E = Effect s (Some time) in
     each E _ _ _ (λ q. stays s _ used next R.Late (λ t. omega arith))
     (λ q. each E _ _ _ (λ q. stays s _ used next R.Conflict (λ t. omega arith))
     (λ q. each E _ _ _ (λ q. stays s _ used next R.Size (λ t. omega arith)) (λ q. no-refusal s _ _ used next _ (omega arith))))
 
-completed-effect : (s : Own) (time used : ℕ) (next : Time) (q : Place) → Effect s (Known time) (completed s time used next q)
+completed-effect : (s : Own) (time used : ℕ) (next : Time) (q : Place) → Effect s (Some time) (completed s time used next q)
 unfolding completed
 completed-effect s time used next q =
-    let E = Effect s (Known time) in
+    let E = Effect s (Some time) in
     each E _ _ _ (λ k. no-refusal s _ _ used next _ (omega arith))
     (λ k. each E _ _ _ (λ f. no-refusal s _ _ used next _ (omega arith))
     (λ f r e. (λ t. record { time = time; known = refl; is = refl }, λ t. absurd (t (sym (refused-is R.Spoiled r e))))))
 
 joining-effect : (h : Shares) (s : Own) (time used : ℕ) (next : Time) (q : Place) (x : P.Part) (d : List ℕ)
-    → Effect s (Known time) (joining h s time used next q x d)
+    → Effect s (Some time) (joining h s time used next q x d)
 unfolding joining
 joining-effect h s time used next q x d =
-    let E = Effect s (Known time) in
+    let E = Effect s (Some time) in
     each E _ _ _ (λ k. stays s _ used next R.Late (λ t. omega arith))
     (λ k. each E _ _ _ (λ k. no-refusal s s _ used next O.Repeat (omega arith))
     (λ k. each E _ _ _ (λ k. stays s _ used next R.Conflict (λ t. omega arith))
@@ -89,13 +88,13 @@ pub not-ten : (r : Refusal) → ByReader (Refused r) → number_of r ≡ 10 → 
 not-ten r k = other-number r 10 k (λ e. omega arith) (λ e. omega arith) (λ e. omega arith)
 
 -- what holds at each known time, and of 18 at an unknown one, holds at every time
-pub at-times : (P : Time → After → Type 0) (s : Own) (used : ℕ) (at : ℕ → After) → ((time : ℕ) → P (Known time) (at time))
-    → P Unknown (refuse s used Unknown R.Untimed) → (t : Time) → P t (timed s t used at)
-at-times P s used at known unknown (Known time) = known time
-at-times P s used at known unknown Unknown = unknown
+pub at-times : (P : Time → After → Type 0) (s : Own) (used : ℕ) (at : ℕ → After) → ((time : ℕ) → P (Some time) (at time))
+    → P None (refuse s used None R.Untimed) → (t : Time) → P t (timed s t used at)
+at-times P s used at known unknown (Some time) = known time
+at-times P s used at known unknown None = unknown
 
-untimed-effect : (s : Own) (used : ℕ) → Effect s Unknown (refuse s used Unknown R.Untimed)
-untimed-effect s used = stays s Unknown used Unknown R.Untimed (λ t. omega arith)
+untimed-effect : (s : Own) (used : ℕ) → Effect s None (refuse s used None R.Untimed)
+untimed-effect s used = stays s None used None R.Untimed (λ t. omega arith)
 
 taken-effect : (h : Shares) (s : Own) (desk : ℕ) (t : Time) (used : ℕ) (rest : List ℕ) (x : Unit) → ByReader x
     → Effect s t (taken h s desk t used rest x)
@@ -235,8 +234,8 @@ unheard h h' s desk t rest e = go (read_of rest).unit t
     go (Skipped y) t k = refl
     go (Refused r) t k = refl
     go (Whole w) t k = refl
-    go (Part x) (Known time) k = unheard-part h h' s time (read_of rest).used _ _ x (data_of rest (Part x)) e k
-    go (Part x) Unknown k = refl
+    go (Part x) (Some time) k = unheard-part h h' s time (read_of rest).used _ _ x (data_of rest (Part x)) e k
+    go (Part x) None k = refl
     go (Description w) t k = refl
 
 -- ---- what is handed out, and what is said to be missing

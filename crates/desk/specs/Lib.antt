@@ -1,2 +1,3 @@
+pub mod GivenUp
 pub mod Desk
 pub mod Effects

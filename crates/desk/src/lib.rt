@@ -2,19 +2,10 @@
 // `grows`, `begins`, `singles`, `settle` and `others`.
 #![tactic(auto)]
 
-use paper::Refusal;
-
 // How many samples the desk has open, the common use, and how many desks there are.
 #[derive(Clone, Copy)]
 pub struct Shares {
     pub opens: usize,
     pub common: usize,
     pub desks: usize,
-}
-
-// What a give-up answers.
-#[derive(Clone, Copy)]
-pub enum GivenUp {
-    Freed,
-    Refused(Refusal),
 }

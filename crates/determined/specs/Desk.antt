@@ -3,7 +3,7 @@
 use Rattle.std.specs.Prelude.{ℕ, ◌≡◌, refl, Bool, List, [], set}
 use Rattle.laws.specs.Exactly.{Determines, determined, equation, determined-by-two}
 use Rattle.laws.specs.Rows.{◌⇒◌⁏◌}
-use Rattle.paper.specs.declared.Time.{Time}
+use Rattle.paper.specs.Time.{Time}
 use Rattle.paper.specs.declared.Answer.{Answer}
 use Rattle.paper.specs.declared.Outcome.{Outcome}
 use Rattle.unit.specs.declared.Part.{Part}
@@ -16,12 +16,12 @@ use Rattle.sample.specs.declared.Head.{Head}
 use Rattle.sample.specs.Head.{head_of, alone}
 use Rattle.sample.specs.Place.{bare, closed, opened}
 use Rattle.desk.specs.declared.Shares.{Shares}
-use Rattle.desk.specs.declared.GivenUp.{GivenUp}
+use Rattle.desk.specs.GivenUp.{GivenUp}
 use Rattle.desk.specs.Desk.{After, Given, own, says, turn, left, is_text, is_part, in_use, later, later_part, conflicts, whole_taken}
 use Rattle.desk.specs.Desk.{completed, joining}
 use Rattle.desk.specs.Desk.{part_at, description_taken, freed, given_up}
 use Rattle.asks.specs.declared.Arrival.{Arrival}
-use Rattle.asks.specs.declared.Bar.{Bar}
+use Rattle.asks.specs.Bar.{Bar}
 use Rattle.asks.specs.declared.Settled.{Settled}
 use Rattle.asks.specs.Settled.{settled, open_in, laid_in, opening, barred, arrival_of, passed}
 use Rattle.determined.specs.Leaves.{Arrays, place_of, arrays_of}

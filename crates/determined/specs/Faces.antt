@@ -7,17 +7,17 @@ use Rattle.paper.specs.Limits.{sample_most}
 use Rattle.paper.specs.declared.Answer.{Answer}
 use Rattle.paper.specs.declared.Name.{Name}
 use Rattle.paper.specs.declared.Sender.{Sender}
-use Rattle.paper.specs.declared.Time.{Time}
+use Rattle.paper.specs.Time.{Time}
 use Rattle.text.specs.Unicode.{character, well_formed}
-use Rattle.boxes.specs.declared.Found.{Found}
+use Rattle.boxes.specs.Found.{Found}
 use Rattle.boxes.specs.Step.{step_of}
-use Rattle.style.specs.declared.Checked.{Checked}
+use Rattle.style.specs.Checked.{Checked}
 use Rattle.style.specs.Book.{check_of}
-use Rattle.writer.specs.declared.Written.{Written}
+use Rattle.writer.specs.Written.{Written}
 use Rattle.writer.specs.Write.{caption, written, described}
-use Rattle.desk.specs.declared.GivenUp.{GivenUp}
+use Rattle.desk.specs.GivenUp.{GivenUp}
 use Rattle.desk.specs.Desk.{given_up_number}
-use Rattle.memory.specs.declared.Started.{Started}
+use Rattle.memory.specs.Started.{Started}
 use Rattle.sample.specs.declared.Place.{Place}
 use Rattle.memory.specs.Relay.{Tables, tables, Prepared, prepared, set_up, Done, done, received_at, Released, released, given_up_at, looked_up}
 use Rattle.memory.specs.Relay.{started_number}

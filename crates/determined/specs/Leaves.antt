@@ -31,12 +31,12 @@ use Rattle.sample.specs.declared.Head.{Head}
 use Rattle.sample.specs.declared.Lengths.{Lengths}
 use Rattle.sample.specs.Head.{head_of as numbers_of, whole, alone}
 use Rattle.sample.specs.Place as P
-use Rattle.style.specs.declared.Checked.{Checked}
+use Rattle.style.specs.Checked.{Checked}
 use Rattle.style.specs.declared.Noted.{Noted}
 use Rattle.style.specs.Record.{record_at, index_of, description_of}
 use Rattle.style.specs.Book.{check_of, entry_of}
 use Rattle.style.specs.Store.{moved, held, in_store, stays, repeated, forgotten, stored, After, left, noted}
-use Rattle.writer.specs.declared.Written.{Written}
+use Rattle.writer.specs.Written.{Written}
 use Rattle.writer.specs.declared.PartFound.{PartFound}
 use Rattle.writer.specs.Cut.{strings}
 use Rattle.writer.specs.Find.{found, found_in, sought}

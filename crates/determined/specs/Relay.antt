@@ -6,8 +6,8 @@ use Rattle.paper.specs.declared.Answer.{Answer}
 use Rattle.paper.specs.declared.Name.{Name}
 use Rattle.paper.specs.declared.Sender.{Sender}
 use Rattle.sample.specs.declared.Place.{Place}
-use Rattle.desk.specs.declared.GivenUp.{GivenUp}
-use Rattle.memory.specs.declared.Started.{Started}
+use Rattle.desk.specs.GivenUp.{GivenUp}
+use Rattle.memory.specs.Started.{Started}
 use Rattle.memory.specs.Relay.{Tables, tables, Prepared, prepared, set_up, Done, done, received_at, Released, released, given_up_at, looked_up}
 
 pub relay-set-up : (n : ℕ) (s : Tables) → Determines (λ (x : Tables × Started). prepared x.0 x.1 ≡ set_up n s)

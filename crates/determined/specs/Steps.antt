@@ -18,14 +18,14 @@ use Rattle.sample.specs.Head.{head_of}
 use Rattle.sample.specs.Place.{bare, closed}
 use Rattle.style.specs.Shown.{shown}
 use Rattle.desk.specs.declared.Shares.{Shares}
-use Rattle.desk.specs.declared.GivenUp.{GivenUp}
+use Rattle.desk.specs.GivenUp.{GivenUp}
 use Rattle.asks.specs.declared.Arrival.{Arrival}
 use Rattle.asks.specs.Settled.{open_in}
-use Rattle.memory.specs.declared.Started.{Started}
+use Rattle.memory.specs.Started.{Started}
 use Rattle.memory.specs.Table.{vacant, is_time, is_at}
 use Rattle.memory.specs.Relay.{desks_of, stored_shares, recounted, improper, stranger, lacks, lacks_three, looked_up}
 use Rattle.table.specs.Table.{holds, stored, cleared, headed}
-use Rattle.gate.specs.declared.Gate.{Gate}
+use Rattle.gate.specs.Passes.{Gate}
 use Rattle.looks.specs.Looks.{reach_at, reach_for, asked_of, spot_of, sender_of, freed_at}
 use Rattle.gate.specs.Gate.{gate_of}
 use Rattle.fresh.specs.Fresh.{fitting, started_of, made_marks}

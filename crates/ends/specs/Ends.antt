@@ -1,10 +1,11 @@
 -- One law for each way that a sample ends or goes on, in the code's own values. Assumes nothing.
-use Rattle.std.specs.Prelude.{ℕ, ◌<◌, ◌≤◌, ◌≡◌, Bool, true, false, List, length, replicate, set}
+use Rattle.desk.specs.GivenUp.{Freed}
+use Rattle.std.specs.Prelude.{ℕ, ◌<◌, ◌≤◌, ◌≡◌, Bool, true, false, List, length, replicate, set, Err}
 use Rattle.std.proofs.Common.{sym, ◌∙◌, arith}
 use Rattle.laws.specs.Rows.{◌⇒◌⁏◌, yes, lt, no, ge}
 use Rattle.paper.specs.Limits.{sample_most, parts_most}
 use Rattle.paper.specs.declared.Refusal.TheVariants as R
-use Rattle.paper.specs.declared.Time.{Time}
+use Rattle.paper.specs.Time.{Time}
 use Rattle.paper.specs.declared.Outcome.TheVariants as O
 use Rattle.sample.specs.declared.Head.{Head}
 use Rattle.sample.specs.declared.Place.{Place}
@@ -14,8 +15,6 @@ use Rattle.desk.specs.Desk.{Own, answering, left, completed, Turn, in_use, facts
 use Rattle.std.proofs.lemmas.List.Edits.{sets}
 use Rattle.joining.specs.Joining.{together, string_of, sound}
 use Rattle.finished.specs.Times.{marked_row, marked_used}
-use Rattle.desk.specs.declared.GivenUp.TheVariants.{Freed}
-use Rattle.desk.specs.declared.GivenUp.TheVariants as G
 
 -- ---- a closed place, from its numbers and arrays
 pub cleared : (h : Head) (kinds starts lens bytes : List ℕ) → h ≡ head_of closed
@@ -53,6 +52,6 @@ unfolding given_up ◌⇒◌⁏◌
 given-freed s time b u h row marks a m = rw (u, h, a, m)
 
 pub given-none : (s : Own) (time : ℕ) (b : Bool) → s.place.used ≡ b → b ≡ false
-    → freed (b ⇒ closed ⁏ s.place) (G.Refused R.NotOpen) s.row s.marks s.store s.out ≡ given_up s time
+    → freed (b ⇒ closed ⁏ s.place) (Err R.NotOpen) s.row s.marks s.store s.out ≡ given_up s time
 unfolding given_up ◌⇒◌⁏◌
 given-none s time b u h = rw (u, h)

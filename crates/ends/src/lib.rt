@@ -10,7 +10,6 @@ ghost use Rattle.desk.specs.Desk.{in_use, own, turn, left, completed, freed, giv
 ghost use Rattle.asks.specs.Settled.{before, after};
 
 use asks::Settled;
-use desk::GivenUp;
 use paper::limits::{PARTS_MOST, SAMPLE_MOST};
 use paper::{Facts, Outcome, Refusal, Time};
 use sample::Head;
@@ -74,14 +73,14 @@ pub fn complete(
 }
 
 // Gives the sample of this time up, if one is open: its time is marked finished. The place is the caller's to free.
-pub fn give_up(is_open: bool, row: &mut [u32], marks: &mut [u32], time: u32) -> GivenUp
+pub fn give_up(is_open: bool, row: &mut [u32], marks: &mut [u32], time: u32) -> Result<(), Refusal>
     ensures { (p : Place) (store out : List ℕ) → p.used ≡ is_open
         → freed (is_open ⇒ closed ⁏ p) result row.new marks.new store out
         ≡ given_up (own p row.old marks.old store out) time }
 {
     if is_open {
         finish(row, marks, time);
-        return GivenUp::Freed;
+        return Ok(());
     }
-    GivenUp::Refused(Refusal::NotOpen)
+    Err(Refusal::NotOpen)
 }

@@ -22,8 +22,8 @@ pub fn bears(when: u32, who: Sender) -> bool
 {
     let t = who.time;
     match t {
-        Time::Known(time) => when == time,
-        Time::Unknown => false,
+        Some(time) => when == time,
+        None => false,
     }
 }
 

@@ -1,5 +1,6 @@
 -- The act of set-up as the code carries it out: k desks are made, where k is n, or 0 where set-up is refused. Assumes nothing.
-use Rattle.std.specs.Prelude.{ℕ, suc, ◌+◌, ◌-◌, ◌*◌, ◌<◌, ◌≤◌, ◌≡◌, Bool, List, [], ◌∷◌, length, set, replicate}
+use Rattle.memory.specs.Started.{Ready}
+use Rattle.std.specs.Prelude.{ℕ, suc, ◌+◌, ◌-◌, ◌*◌, ◌<◌, ◌≤◌, ◌≡◌, Bool, List, [], ◌∷◌, length, set, replicate, Err}
 use Rattle.std.proofs.Common.{arith, ap, sym, ◌∙◌}
 use Rattle.std.proofs.Math.Path.{refl}
 use Rattle.std.proofs.Math.Bool.{true, false}
@@ -9,7 +10,6 @@ use Rattle.laws.specs.Region.{sets-append}
 use Rattle.paper.specs.Limits.{desks_most, in_band, head_size, marks_each, places, rows_need, stores_need}
 use Rattle.paper.specs.declared.Refusal.TheVariants as R
 use Rattle.table.specs.Table.{cleared}
-use Rattle.memory.specs.declared.Started.TheVariants.{Ready, Refused}
 use Rattle.memory.specs.Relay.{Tables, tables, improper, lacking, Prepared, prepared, head, own_marks, fresh_marks, fresh_tables, set_up}
 use Rattle.fresh.specs.Fresh.{fitting, started_of, made_marks}
 
@@ -51,7 +51,7 @@ module _ (n : ℕ) (s : Tables) where
       prepared (tables (cleared (places k) s.places) (sets s.rows 0 (replicate (rows_need k) 0)) (made_marks k s.marks)
       (sets s.stores 0 (replicate (stores_need k) 0))) (started_of k)
 
-  made_none : made_of 0 ≡ prepared s (Refused R.Desk)
+  made_none : made_of 0 ≡ prepared s (Err R.Desk)
   unfolding started_of made_marks ◌⇒◌⁏◌
   made_none = rw (eq 0 0 refl)
 
@@ -64,7 +64,7 @@ module _ (n : ℕ) (s : Tables) where
   set-up-is = go (improper n or lacking n s) refl
     where
       go : (one : Bool) → (improper n or lacking n s) ≡ one
-          → made_of (one ⇒ 0 ⁏ n) ≡ (one ⇒ prepared s (Refused R.Desk) ⁏ prepared (fresh_tables n s) Ready)
+          → made_of (one ⇒ 0 ⁏ n) ≡ (one ⇒ prepared s (Err R.Desk) ⁏ prepared (fresh_tables n s) Ready)
       go true e = made_none
       go false e = made_all (or-none _ _ e).0
 

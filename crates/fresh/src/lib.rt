@@ -7,7 +7,6 @@ ghost use Rattle.paper.specs.Limits.{desks_most, head_size, places, rows_need, s
 ghost use Rattle.memory.specs.Relay.{head, own_marks};
 ghost use Rattle.fresh.specs.Fresh.{fitting, started_of, made_marks};
 
-use memory::Started;
 use paper::Refusal;
 use paper::limits::{
     DESKS_AT, FINISHED_MOST, HEAD_SIZE, IN_BAND, MARKS_EACH, PLACES_EACH, STORE_SIZE,
@@ -98,11 +97,11 @@ pub fn make_fresh(rows: &mut [u32], marks: &mut [u32], stores: &mut [u8], n: usi
     zero_bytes(stores, STORE_SIZE * n);
 }
 
-pub fn answer_of(n: usize) -> Started
+pub fn answer_of(n: usize) -> Result<(), Refusal>
     ensures { result ≡ started_of n }
 {
     if n == 0 {
-        return Started::Refused(Refusal::Desk);
+        return Err(Refusal::Desk);
     }
-    Started::Ready
+    Ok(())
 }

@@ -1,14 +1,14 @@
 -- Refusals 1 and 2 in their order: a call is let through, or shut out. Assumes nothing.
-use Rattle.std.specs.Prelude.{ℕ}
+use Rattle.gate.specs.Passes.{Through}
+use Rattle.std.specs.Prelude.{ℕ, Err}
 use Rattle.laws.specs.Rows.{◌⇒◌⁏◌, ◌or◌, ◌<?◌}
 use Rattle.paper.specs.Limits.{sample_most}
 use Rattle.paper.specs.declared.Refusal.TheVariants as R
 use Rattle.memory.specs.Relay.{stranger, lacks}
-use Rattle.gate.specs.declared.Gate.{Gate}
-use Rattle.gate.specs.declared.Gate.TheVariants.{Through, Shut}
+use Rattle.gate.specs.Passes.{Gate}
 
 unfoldable pub gate_of : (n table rows marks stores desk out : ℕ) → Gate
 gate_of n table rows marks stores desk out =
-    stranger n desk or lacks n table rows marks stores ⇒ Shut R.Desk
-    ⁏ out <? sample_most ⇒ Shut R.Output
+    stranger n desk or lacks n table rows marks stores ⇒ Err R.Desk
+    ⁏ out <? sample_most ⇒ Err R.Output
     ⁏ Through

@@ -1,5 +1,6 @@
 -- What the tests of 1 and 2 tell of the sizes, once they are passed. Assumes nothing.
-use Rattle.std.specs.Prelude.{ℕ, ◌+◌, ◌*◌, ◌^◌, ◌≤◌, ◌<◌, ◌≡◌, refl, Bool}
+use Rattle.gate.specs.Passes.{Through}
+use Rattle.std.specs.Prelude.{ℕ, ◌+◌, ◌*◌, ◌^◌, ◌≤◌, ◌<◌, ◌≡◌, refl, Bool, Ok, Err}
 use Rattle.std.proofs.Common.{arith, sym, ◌∙◌, true≢false}
 use Rattle.std.proofs.Math.Path.{ap}
 use Rattle.std.proofs.Math.Bool.{true, false}
@@ -8,8 +9,7 @@ use Rattle.paper.specs.Limits.{sample_most, finished_most, desks_most, head_size
 use Rattle.paper.specs.declared.Refusal.{Refusal}
 use Rattle.paper.specs.declared.Refusal.TheVariants as R
 use Rattle.memory.specs.Relay.{improper, stranger, short, lacks, lacks_three}
-use Rattle.gate.specs.declared.Gate.{Gate}
-use Rattle.gate.specs.declared.Gate.TheVariants.{Through, Shut}
+use Rattle.gate.specs.Passes.{Gate}
 use Rattle.gate.specs.Gate.{gate_of}
 
 pub either : (a b : Bool) → a ≡ true → (a or b) ≡ true
@@ -101,24 +101,24 @@ module _ {n table rows marks stores desk : ℕ} (f : Fits n table rows marks sto
 
 -- ---- the gate
 why_of : Gate → Refusal
-why_of Through = R.Desk
-why_of (Shut r) = r
+why_of (Ok u) = R.Desk
+why_of (Err r) = r
 
 is_through : Gate → Bool
-is_through Through = true
-is_through (Shut r) = false
+is_through (Ok u) = true
+is_through (Err r) = false
 
 module _ (n table rows marks stores desk out : ℕ) (g : Gate) (f : g ≡ gate_of n table rows marks stores desk out) where
   abbrev one : Bool
   one = stranger n desk or lacks n table rows marks stores
 
   -- what a gate that is shut answers is what the two rows answer
-  pub shut : {A : Type 0} (answer : Refusal → A) (a : A) (why : Refusal) → g ≡ Shut why
+  pub shut : {A : Type 0} (answer : Refusal → A) (a : A) (why : Refusal) → g ≡ Err why
       → answer why ≡ (one ⇒ answer R.Desk ⁏ out <? sample_most ⇒ answer R.Output ⁏ a)
   unfolding gate_of ◌⇒◌⁏◌ is_through why_of
   shut answer a why h = go one (out <? sample_most) (sym f ∙ h)
     where
-      go : (x y : Bool) → (x ⇒ Shut R.Desk ⁏ y ⇒ Shut R.Output ⁏ Through) ≡ Shut why
+      go : (x y : Bool) → (x ⇒ Err R.Desk ⁏ y ⇒ Err R.Output ⁏ Through) ≡ Err why
           → answer why ≡ (x ⇒ answer R.Desk ⁏ y ⇒ answer R.Output ⁏ a)
       go true y q = ap answer (sym (ap why_of q))
       go false true q = ap answer (sym (ap why_of q))
@@ -128,7 +128,7 @@ module _ (n table rows marks stores desk out : ℕ) (g : Gate) (f : g ≡ gate_o
   unfolding gate_of ◌⇒◌⁏◌ is_through
   clear h = go one (out <? sample_most) (sym f ∙ h)
     where
-      go : (x y : Bool) → (x ⇒ Shut R.Desk ⁏ y ⇒ Shut R.Output ⁏ Through) ≡ Through → (x ≡ false) × (y ≡ false)
+      go : (x y : Bool) → (x ⇒ Err R.Desk ⁏ y ⇒ Err R.Output ⁏ Through) ≡ Through → (x ≡ false) × (y ≡ false)
       go true y q = absurd (true≢false (sym (ap is_through q)))
       go false true q = absurd (true≢false (sym (ap is_through q)))
       go false false q = (refl, refl)

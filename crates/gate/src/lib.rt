@@ -12,13 +12,6 @@ use paper::limits::{
     STORE_SIZE,
 };
 
-// Whether a call goes through to the desk.
-#[derive(Clone, Copy)]
-pub enum Gate {
-    Through,
-    Shut(Refusal),
-}
-
 // How many desks there are, as set-up put it down.
 pub fn desks_of(marks: &[u32]) -> usize
     ensures { result ≡ desks_of marks.now }
@@ -82,18 +75,18 @@ pub fn gate_of(
     stores: usize,
     desk: usize,
     out: &[u8],
-) -> Gate
+) -> Result<(), Refusal>
     ensures { result ≡ gate_of n table (length rows.now) (length marks.now) stores desk
         (length out.now) }
 {
     if is_stranger(n, desk) {
-        return Gate::Shut(Refusal::Desk);
+        return Err(Refusal::Desk);
     }
     if is_lacking(n, table, rows.len(), marks.len(), stores) {
-        return Gate::Shut(Refusal::Desk);
+        return Err(Refusal::Desk);
     }
     if out.len() < SAMPLE_MOST {
-        return Gate::Shut(Refusal::Output);
+        return Err(Refusal::Output);
     }
-    Gate::Through
+    Ok(())
 }

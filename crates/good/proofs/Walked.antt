@@ -1,7 +1,7 @@
 -- The relay that walks: as it was before the numbers were stored, a call counts the desk's open samples and the common use by a walk over
 -- the places, and puts no number down. In good tables every call is answered as it answers it, and leaves all that it leaves; but for the
 -- numbers. Assumes nothing.
-use Rattle.std.specs.Prelude.{ℕ, ◌+◌, ◌*◌, ◌≤◌, ◌<◌, ◌≡◌, refl, Bool, true, false, List, [], ◌∷◌, ◌++◌, length, take, drop}
+use Rattle.std.specs.Prelude.{ℕ, ◌+◌, ◌*◌, ◌≤◌, ◌<◌, ◌≡◌, refl, Bool, true, false, List, [], ◌∷◌, ◌++◌, length, take, drop, Some}
 use Rattle.std.proofs.Common.{arith, sym, ap, ◌∙◌, append_assoc, length-append, length-take-le, drop_at, drop-drop, take-add}
 use Rattle.std.proofs.Math.Path.{subst}
 use Rattle.laws.specs.Rows.{◌⇒◌⁏◌, ◌or◌, or-none}
@@ -9,8 +9,7 @@ use Rattle.laws.specs.Region.{splice}
 use Rattle.paper.specs.Limits.{finished_most, marks_each, store_size, head_size, places, marks_need, stores_need}
 use Rattle.paper.specs.declared.Name.{Name}
 use Rattle.paper.specs.declared.Sender.{Sender}
-use Rattle.paper.specs.declared.Time.{Time}
-use Rattle.paper.specs.declared.Time.TheVariants.{Known}
+use Rattle.paper.specs.Time.{Time}
 use Rattle.sample.specs.declared.Place.{Place}
 use Rattle.style.specs.Shown.{shown}
 use Rattle.desk.specs.Desk.{Own, After, Given, own, newest_of}
@@ -143,7 +142,7 @@ module _ (n : ℕ) (s r : Tables) (g : Good n s) (a : Alike s r) (desk time : �
   give-up-among =
       subst
       (λ (w : Bool). GivenUpAsWalked (given_up_among n s desk time)
-      (walked_returned n r desk time (yielded (stranger n desk or w) (own_of n r desk (Known time) []) time)))
+      (walked_returned n r desk time (yielded (stranger n desk or w) (own_of n r desk (Some time) []) time)))
       lack (go (stranger n desk or lacks_three n (length s.places) (length s.rows) (length s.marks)) refl)
     where
       lack : lacks_three n (length s.places) (length s.rows) (length s.marks)
@@ -151,17 +150,17 @@ module _ (n : ℕ) (s r : Tables) (g : Good n s) (a : Alike s r) (desk time : �
       lack = λ i. lacks_three n (length (a.places i)) (length (a.rows i)) (a.long i)
 
       go : (one : Bool) → (stranger n desk or lacks_three n (length s.places) (length s.rows) (length s.marks)) ≡ one
-          → GivenUpAsWalked (returned n s desk time (yielded one (own_of n s desk (Known time) []) time))
-          (walked_returned n r desk time (yielded one (own_of n r desk (Known time) []) time))
-      go true e = record { answer = refl; tables = still_alike n s r g a desk (Known time) [] }
+          → GivenUpAsWalked (returned n s desk time (yielded one (own_of n s desk (Some time) []) time))
+          (walked_returned n r desk time (yielded one (own_of n r desk (Some time) []) time))
+      go true e = record { answer = refl; tables = still_alike n s r g a desk (Some time) [] }
       go false e =
-          let stored = yielded false (own_of n s desk (Known time) []) time in
-          let q = ap (λ (o : Own). yielded false o time) (own-alike n s r g a desk (Known time) []) in
+          let stored = yielded false (own_of n s desk (Some time) []) time in
+          let q = ap (λ (o : Own). yielded false o time) (own-alike n s r g a desk (Some time) []) in
           record {
             answer = ap (λ (x : Given). x.answer) q;
             tables =
-                subst (λ (x : Given). Alike (put_back n s desk (Known time) stored.own) (put_own n r desk (Known time) x.own)) q
-                (put-alike n s r g a desk (Known time) (below n desk (or-none _ _ e).0) stored.own);
+                subst (λ (x : Given). Alike (put_back n s desk (Some time) stored.own) (put_own n r desk (Some time) x.own)) q
+                (put-alike n s r g a desk (Some time) (below n desk (or-none _ _ e).0) stored.own);
           }
 
 -- the number of desks is read in the head

@@ -6,7 +6,7 @@ use Rattle.std.proofs.Common.{arith, sym, ap, subst, ◌∙◌, length-set, get_
 use Rattle.laws.specs.Rows.{◌⇒◌⁏◌, each, lt, lt_of, ge-of}
 use Rattle.laws.specs.Table.{bit, count}
 use Rattle.paper.specs.Limits.{desks_most, own_places, head_size, desks_at, common_at, opens_at, mark_most}
-use Rattle.paper.specs.declared.Time.{Time}
+use Rattle.paper.specs.Time.{Time}
 use Rattle.sample.specs.declared.Place.{Place}
 use Rattle.memory.specs.Table.{mine}
 use Rattle.memory.specs.Relay.{desks_of, open_at, common_use, common_of, opens_of, stepped, common_stepped, recounted}

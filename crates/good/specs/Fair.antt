@@ -1,14 +1,13 @@
 -- Shares of the places: what holds of the 4n places after every call, and the pigeonhole: a desk that the shares let through finds a
 -- free place. Assumes nothing.
-use Rattle.std.specs.Prelude.{ℕ, suc, ◌+◌, ◌-◌, ◌≤◌, ◌<◌, ◌≡◌, refl, Bool, true, false, ◌⊎◌, ◌≢◌, List, [], ◌∷◌, length, replicate}
+use Rattle.std.specs.Prelude.{ℕ, suc, ◌+◌, ◌-◌, ◌≤◌, ◌<◌, ◌≡◌, refl, Bool, true, false, ◌⊎◌, ◌≢◌, List, [], ◌∷◌, length, replicate, Some, None}
 use Rattle.std.proofs.Common.{zero-le, arith, ap, inl, inr, ⊎_elim}
 use Rattle.std.proofs.Math.Decide.{dec_lt, ℕ_discrete}
 use Rattle.laws.specs.Rows.{◌⇒◌⁏◌, and_is, eq}
 use Rattle.laws.specs.Table.{bit, seek, count, seek-not, count_none}
 use Rattle.laws.specs.Sums.{sum, sum_more, sum-add, sum-gap, sum-ge, sum-zero, sum-changed}
 use Rattle.paper.specs.Limits.{own_places, open_most, places, common}
-use Rattle.paper.specs.declared.Time.{Time}
-use Rattle.paper.specs.declared.Time.TheVariants.{Known, Unknown}
+use Rattle.paper.specs.Time.{Time}
 use Rattle.sample.specs.declared.Place.{Place}
 use Rattle.sample.specs.Place.{bare, closed}
 use Rattle.memory.specs.Table.{vacant, mine, is_time, is_at}
@@ -19,15 +18,15 @@ use Rattle.good.specs.Places.{time-of, closed-free, open_none, Moved}
 
 -- a sample is open once at most; a desk has six open at most, and only desks below n have any; the common use is at most the common places
 pub record Fair (n : ℕ) (l : List Place) : Type 0 where
-  pub once : (d time : ℕ) → count (is_at d (Known time)) l ≤ 1
+  pub once : (d time : ℕ) → count (is_at d (Some time)) l ≤ 1
   pub six : (d : ℕ) → count (mine d) l ≤ open_most
   pub whose : (d : ℕ) → n ≤ d → count (mine d) l ≡ 0
   pub shared : common_use n l ≤ common n
 
 -- at whatever time, known or not
 pub once-at : (n : ℕ) (l : List Place) → Fair n l → (d : ℕ) (t : Time) → count (is_at d t) l ≤ 1
-once-at n l f d (Known time) = f.once d time
-once-at n l f d Unknown = omega (arith, open_none d Unknown l (closed-free (open_at d Unknown l) (open_unknown d l)))
+once-at n l f d (Some time) = f.once d time
+once-at n l f d None = omega (arith, open_none d None l (closed-free (open_at d None l) (open_unknown d l)))
 
 -- the shares let a desk through: fewer than six are open, and fewer than two or the common use is not all of the common places
 pub record Passed (h : Shares) : Type 0 where
@@ -76,7 +75,7 @@ none-common n k = sum-zero n (λ (e : ℕ). count (mine e) (replicate k closed) 
 pub fair-closed : (n k : ℕ) → Fair n (replicate k closed)
 unfolding bare ◌⇒◌⁏◌
 fair-closed n k = record {
-  once = λ d time. omega (arith, count_none (is_at d (Known time)) k closed refl);
+  once = λ d time. omega (arith, count_none (is_at d (Some time)) k closed refl);
   six = λ d. omega (arith, none-mine d k);
   whose = λ d h. none-mine d k;
   shared = omega (arith, none-common n k);
@@ -118,7 +117,7 @@ module _ (n d : ℕ) (t : Time) (p : Place) (l k : List Place) (f : Fair n l) (h
         ⊎_elim (λ w. omega arith) (λ w. ⊎_elim (λ q. omega arith) (λ q. omega arith) w.1.1.share) grows;
   }
     where
-      once : (e u : ℕ) → Dec (e ≡ d) → (b : Bool) → is_time t u ≡ b → count (is_at e (Known u)) k ≤ 1
+      once : (e u : ℕ) → Dec (e ≡ d) → (b : Bool) → is_time t u ≡ b → count (is_at e (Some u)) k ≤ 1
       once e u (yes q) true r =
           rw (q, ← (time-of t u r)) (⊎_elim (λ w. omega (arith, once-at n l f d t)) (λ w. w.0) grows)
       once e u (yes q) false r = omega (arith, f.once e u, m.other-is_at e u (λ a. r))

@@ -1,5 +1,6 @@
 -- What set-up leaves to each desk: the same view, whatever the lent memory was. Assumes nothing.
-use Rattle.std.specs.Prelude.{ℕ, zero, suc, ◌+◌, ◌-◌, ◌*◌, ◌≤◌, ◌<◌, ◌≡◌, refl, true, false, List, [], ◌∷◌, ◌++◌, length, drop, take, replicate}
+use Rattle.memory.specs.Started.{Ready}
+use Rattle.std.specs.Prelude.{ℕ, zero, suc, ◌+◌, ◌-◌, ◌*◌, ◌≤◌, ◌<◌, ◌≡◌, refl, true, false, List, [], ◌∷◌, ◌++◌, length, drop, take, replicate, Some}
 use Rattle.std.proofs.Common.{mul-le-mul_left, zero-add, arith, sym, ap, subst, ◌∙◌, append-nil, drop_of_length-le, length-drop, take_at, drop_at}
 use Rattle.std.proofs.lemmas.List.{length-replicate, replicate-append-replicate, take-append-le, drop-append-le}
 use Rattle.std.proofs.lemmas.List.Edits.{sets, sets-eq}
@@ -8,10 +9,8 @@ use Rattle.laws.specs.Rows.{◌or◌, no, ge, or-none, ge-of}
 use Rattle.laws.specs.Region.{part}
 use Rattle.laws.specs.Table.{seek}
 use Rattle.paper.specs.Limits.{head_size, finished_most, in_band, marks_each, store_size, places, rows_need, marks_need, stores_need}
-use Rattle.paper.specs.declared.Time.TheVariants.{Known}
 use Rattle.sample.specs.Place.{closed}
 use Rattle.memory.specs.Table.{is_at}
-use Rattle.memory.specs.declared.Started.TheVariants.{Ready}
 use Rattle.memory.specs.Relay.{Tables, tables, improper, short, lacking, Prepared, head, own_marks, fresh_marks, set_up}
 use Rattle.good.specs.Fair.{none-mine}
 use Rattle.good.specs.Good.{ready-exactly, all_closed, none_open, fresh-length}
@@ -71,7 +70,7 @@ set-up-view n d s q h =
     let two = or-none _ _ three.1 in
     let f = all_closed (places n) s.places (ge-of _ _ three.0) in
     subst (λ (m : Prepared). view n d m.tables ≡ fresh_view) (no _ _ e refl)
-    (same_view _ _ (λ time. rw f (none_open (places n) (seek (is_at d (Known time)) (replicate (places n) closed))))
+    (same_view _ _ (λ time. rw f (none_open (places n) (seek (is_at d (Some time)) (replicate (places n) closed))))
     (rw f (none-mine d (places n))) (cell-fresh finished_most n d h 0 s.rows (ge-of _ _ two.0))
     (cell-stored marks_each n d h head_size (fresh_marks n) s.marks (fresh-length n) (ge-of _ _ two.1) ∙ marks-alike n d h)
     (cell-fresh store_size n d h 0 s.stores (ge-of _ _ c.1)))

@@ -1,7 +1,8 @@
 -- Good tables: n is in their head, and with it the numbers that a walk over the places finds; they are long enough for n desks, with fair
 -- places, each of them as its parts made it, and of each open sample the text that is kept is well-formed. Set-up makes them and every call
 -- keeps them, whatever it is handed. Assumes nothing.
-use Rattle.std.specs.Prelude.{ℕ, zero, suc, ◌+◌, ◌*◌, ◌≤◌, ◌<◌, ◌≡◌, refl, Bool, not, List, [], ◌∷◌, ◌++◌, length, take, drop, get_or, set, replicate}
+use Rattle.memory.specs.Started.{Ready}
+use Rattle.std.specs.Prelude.{ℕ, zero, suc, ◌+◌, ◌*◌, ◌≤◌, ◌<◌, ◌≡◌, refl, Bool, not, List, [], ◌∷◌, ◌++◌, length, take, drop, get_or, set, replicate, Some, Err}
 use Rattle.std.proofs.Common.{arith, sym, ap, ◌∙◌, length-append, length-set, length-take-le, take_at, get_or-take}
 use Rattle.std.proofs.Math.Path.{subst}
 use Rattle.std.proofs.Math.Bool.{true, false}
@@ -18,13 +19,11 @@ use Rattle.paper.specs.Limits.{places, rows_need, marks_need, stores_need}
 use Rattle.paper.specs.declared.Refusal.TheVariants as R
 use Rattle.paper.specs.declared.Name.{Name}
 use Rattle.paper.specs.declared.Sender.{Sender}
-use Rattle.paper.specs.declared.Time.{Time}
-use Rattle.paper.specs.declared.Time.TheVariants.{Known}
+use Rattle.paper.specs.Time.{Time}
 use Rattle.sample.specs.declared.Place.{Place}
 use Rattle.sample.specs.Place.{closed}
 use Rattle.sample.specs.Text.{Sane, closed-sane}
 use Rattle.desk.specs.Desk.{Own}
-use Rattle.memory.specs.declared.Started.TheVariants.{Ready, Refused}
 use Rattle.memory.specs.Table.{vacant}
 use Rattle.memory.specs.Relay.{Tables, desks_of, places_of, open_at, own_of, shares_of, common_of, opens_of, stored_shares}
 use Rattle.memory.specs.Relay.{stands_at, placed, put_back, improper, stranger, short, lacks_three, lacking}
@@ -85,7 +84,7 @@ pub ready-exactly : (n : ℕ) (s : Tables) → Exactly ((set_up n s).answer ≡ 
 unfolding set_up ◌⇒◌⁏◌
 ready-exactly n s = (go (improper n or lacking n s), λ e. rw e)
   where
-    go : (b : Bool) → (b ⇒ prepared s (Refused R.Desk) ⁏ prepared (fresh_tables n s) Ready).answer ≡ Ready → b ≡ false
+    go : (b : Bool) → (b ⇒ prepared s (Err R.Desk) ⁏ prepared (fresh_tables n s) Ready).answer ≡ Ready → b ≡ false
     go true q = let z : ◌≡◌ {A = ℕ} 0 1 = cc in absurd (omega arith)
     go false q = refl
 
@@ -240,9 +239,9 @@ module _ (n : ℕ) (s : Tables) (desk : ℕ) (t : Time) where
   receive-left one rest out = ordered-leaves _ (own_of n s desk t out) desk t (open-named desk t (places_of n s)) one rest
 
 pub give-up-left : (n : ℕ) (s : Tables) (desk time : ℕ) (one : Bool)
-    → Left n s desk (Known time) [] (yielded one (own_of n s desk (Known time) []) time).own
+    → Left n s desk (Some time) [] (yielded one (own_of n s desk (Some time) []) time).own
 give-up-left n s desk time one =
-    yielded-leaves _ (own_of n s desk (Known time) []) desk (Known time) (open-named desk (Known time) (places_of n s)) one time
+    yielded-leaves _ (own_of n s desk (Some time) []) desk (Some time) (open-named desk (Some time) (places_of n s)) one time
 
 -- what holds of the tables, and of them with what a call may leave put back, holds after every call
 module _ (n : ℕ) (s : Tables) (desk : ℕ) (head : desks_of s.marks ≡ n) (P : Tables → Type 0) (same : P s) where
@@ -257,7 +256,7 @@ module _ (n : ℕ) (s : Tables) (desk : ℕ) (head : desks_of s.marks ≡ n) (P 
       go true e = subst P (sym (put_same n s desk t out)) same
       go false e = put (below n desk (or-none _ _ e).0) _ (receive-left n s desk t false rest out)
 
-  pub give-up-each : (time : ℕ) → (desk < n → (o : Own) → Left n s desk (Known time) [] o → P (put_back n s desk (Known time) o))
+  pub give-up-each : (time : ℕ) → (desk < n → (o : Own) → Left n s desk (Some time) [] o → P (put_back n s desk (Some time) o))
       → P (given_up_at s (name desk time)).tables
   unfolding given_up_among yielded ◌⇒◌⁏◌
   give-up-each time put =
@@ -265,8 +264,8 @@ module _ (n : ℕ) (s : Tables) (desk : ℕ) (head : desks_of s.marks ≡ n) (P 
       (go (stranger n desk or lacks_three n (length s.places) (length s.rows) (length s.marks)) refl)
     where
       go : (one : Bool) → (stranger n desk or lacks_three n (length s.places) (length s.rows) (length s.marks)) ≡ one
-          → P (put_back n s desk (Known time) (yielded one (own_of n s desk (Known time) []) time).own)
-      go true e = subst P (sym (put_same n s desk (Known time) [])) same
+          → P (put_back n s desk (Some time) (yielded one (own_of n s desk (Some time) []) time).own)
+      go true e = subst P (sym (put_same n s desk (Some time) [])) same
       go false e = put (below n desk (or-none _ _ e).0) _ (give-up-left n s desk time false)
 
 -- ---- every call keeps good tables good
@@ -277,4 +276,4 @@ module _ (n : ℕ) (s : Tables) (g : Good n s) where
 
   pub give-up-good : (who : Name) → Good n (given_up_at s who).tables
   give-up-good who =
-      give-up-each n s who.desk g.head (Good n) g who.time (λ h o k. put-good n s who.desk (Known who.time) [] o g h k)
+      give-up-each n s who.desk g.head (Good n) g who.time (λ h o k. put-good n s who.desk (Some who.time) [] o g h k)

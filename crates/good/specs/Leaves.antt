@@ -1,14 +1,13 @@
 -- What a call of a desk leaves of its own things: a place that is closed or its sample of that time, lists as long as they were, and a
 -- new sample only where the shares let it through; and a place that parts made is left as parts made it, its text well-formed.
 -- Assumes nothing.
-use Rattle.std.specs.Prelude.{ℕ, ◌<◌, ◌≡◌, Bool, true, false, ◌⊎◌, ◌≢◌, List, length}
+use Rattle.std.specs.Prelude.{ℕ, ◌<◌, ◌≡◌, Bool, true, false, ◌⊎◌, ◌≢◌, List, length, Some}
 use Rattle.std.proofs.Common.{arith, sym, subst, ◌∙◌, true≢false, inl, inr}
 use Rattle.std.proofs.Math.Path.{refl, ap}
 use Rattle.std.proofs.Math.ListN.{length-set}
 use Rattle.laws.specs.Rows.{◌<?◌, each, no, eq, lt_of, ge-of, ne_of, or-none, not-of}
 use Rattle.paper.specs.Limits.{own_places, common}
-use Rattle.paper.specs.declared.Time.{Time}
-use Rattle.paper.specs.declared.Time.TheVariants.{Known}
+use Rattle.paper.specs.Time.{Time}
 use Rattle.finished.proofs.Marks.{length-kept}
 use Rattle.text.specs.Unicode.{WellFormed}
 use Rattle.unit.specs.declared.Whole as W
@@ -142,14 +141,14 @@ module _ (h : Shares) (s : Own) (desk : ℕ) (t : Time) (named : Named desk t s.
       (λ a. each L _ _ _ (λ e. stay-leaves)
       (λ b. completed-leaves time used next (kept q x d) n (λ f. passes s.place h f a b) (m f₂ f₃)))))))
 
-  sample-open : (time : ℕ) → t ≡ Known time → (x : P.Part) → let q = sample_of s.place desk time x in
+  sample-open : (time : ℕ) → t ≡ Some time → (x : P.Part) → let q = sample_of s.place desk time x in
       (q.used ≡ true) × ((q.desk ≡ desk) × (is_time t q.time ≡ true))
   unfolding sample_of bare
   sample-open time e x =
       each (λ (q : Place). (q.used ≡ true) × ((q.desk ≡ desk) × (is_time t q.time ≡ true))) _ _ _ (λ u. (u, named.name u))
       (λ u. (refl, (refl, ap (λ (v : Time). is_time v time) e ∙ eq time time refl)))
 
-  kept-named : (time : ℕ) → t ≡ Known time → (x : P.Part) (d : List ℕ) → Named desk t (kept (sample_of s.place desk time x) x d)
+  kept-named : (time : ℕ) → t ≡ Some time → (x : P.Part) (d : List ℕ) → Named desk t (kept (sample_of s.place desk time x) x d)
   kept-named time k x d =
       let q = sample_of s.place desk time x in
       let e = keep-named q x d in

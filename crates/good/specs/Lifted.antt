@@ -1,6 +1,7 @@
 -- What every call keeps to, of any tables: a refusal leaves tables and output as they stood, except 10, which frees the place and marks
 -- the time; 17, exactly; progress; and that tables whose head does not hold 1 to 8 refuse every call. Assumes nothing.
-use Rattle.std.specs.Prelude.{ℕ, zero, suc, ◌+◌, ◌≤◌, ◌<◌, ◌≡◌, refl, Bool, false, ◌⊎◌, length}
+use Rattle.desk.specs.GivenUp.{Freed}
+use Rattle.std.specs.Prelude.{ℕ, zero, suc, ◌+◌, ◌≤◌, ◌<◌, ◌≡◌, refl, Bool, false, ◌⊎◌, length, Some, Err}
 use Rattle.std.proofs.Common.{zero-lt-suc, arith, ◌∙◌, inl, inr}
 use Rattle.std.proofs.Math.Path.{sym, ap, ap₂}
 use Rattle.std.proofs.Math.Bool.{true}
@@ -15,15 +16,13 @@ use Rattle.paper.specs.declared.Outcome.TheVariants as O
 use Rattle.paper.specs.declared.Answer.{Answer}
 use Rattle.paper.specs.declared.Name.{Name}
 use Rattle.paper.specs.declared.Sender.{Sender}
-use Rattle.paper.specs.declared.Time.{Time}
-use Rattle.paper.specs.declared.Time.TheVariants.{Known}
+use Rattle.paper.specs.Time.{Time}
 use Rattle.unit.specs.declared.Unit.TheVariants as U
 use Rattle.unit.specs.declared.Reading.{Reading}
 use Rattle.unit.specs.Layout.{reading, read_of}
 use Rattle.unit.proofs.Readings.{seventeen-uses}
 use Rattle.sample.specs.Place.{closed}
 use Rattle.desk.specs.declared.Shares.{Shares}
-use Rattle.desk.specs.declared.GivenUp.TheVariants as G
 use Rattle.desk.specs.Desk.{Own, After, Given, says, finish, taken, received, given_up}
 use Rattle.desk.specs.Effects.{Effect, refusal_number}
 use Rattle.desk.proofs.Effects.{stays, effects, reader-refuses, seventeen-read, progress}
@@ -42,7 +41,7 @@ ordered-effect one h s desk t rest =
 -- by 10 the place is freed and the time, which is known, is marked
 pub record Frees (s : Tables) (who : Sender) (rest out : List ℕ) : Type 0 where
   pub time : ℕ
-  pub known : who.time ≡ Known time
+  pub known : who.time ≡ Some time
   pub tables : let n = desks_of s.marks in
       (received_at s who rest out).tables
       ≡ put_back n s who.desk who.time (finish (own_of n s who.desk who.time out) time closed out)
@@ -104,7 +103,7 @@ module _ (s : Tables) (who : Sender) (rest out : List ℕ) where
 
 -- ---- give-up: refused, all stays; else the place is freed and the time marked
 abbrev Gives : Own → (time : ℕ) → Given → Type 0
-Gives s time g = ((r : Refusal) → g.answer ≡ G.Refused r → g.own ≡ s) × (g.answer ≡ G.Freed → g.own ≡ finish s time closed s.out)
+Gives s time g = ((r : Refusal) → g.answer ≡ Err r → g.own ≡ s) × (g.answer ≡ Freed → g.own ≡ finish s time closed s.out)
 
 yielded-gives : (one : Bool) (s : Own) (time : ℕ) → Gives s time (yielded one s time)
 unfolding yielded given_up
@@ -112,24 +111,24 @@ yielded-gives one s time =
     each (Gives s time) _ _ _ (λ e. (λ r q. refl, λ q. clash q))
     (λ e. each (Gives s time) _ _ _ (λ u. (λ r q. clash (sym q), λ q. refl)) (λ u. (λ r q. refl, λ q. clash q)))
   where
-    clash : {A : Type 0} {r : Refusal} → G.Refused r ≡ G.Freed → A
+    clash : {A : Type 0} {r : Refusal} → Err r ≡ Freed → A
     clash q = let k : ◌≡◌ {A = ℕ} 0 1 = cc in absurd (omega arith)
 
 module _ (s : Tables) (who : Name) where
   abbrev held : Own
-  held = own_of (desks_of s.marks) s who.desk (Known who.time) []
+  held = own_of (desks_of s.marks) s who.desk (Some who.time) []
 
-  pub give-up-stays : (r : Refusal) → (given_up_at s who).answer ≡ G.Refused r → (given_up_at s who).tables ≡ s
+  pub give-up-stays : (r : Refusal) → (given_up_at s who).answer ≡ Err r → (given_up_at s who).tables ≡ s
   unfolding given_up_among
   give-up-stays r e =
       let n = desks_of s.marks in
-      ap (put_back n s who.desk (Known who.time)) ((yielded-gives _ held who.time).0 r e)
-      ∙ put_same n s who.desk (Known who.time) []
+      ap (put_back n s who.desk (Some who.time)) ((yielded-gives _ held who.time).0 r e)
+      ∙ put_same n s who.desk (Some who.time) []
 
-  pub give-up-frees : (given_up_at s who).answer ≡ G.Freed
-      → (given_up_at s who).tables ≡ put_back (desks_of s.marks) s who.desk (Known who.time) (finish held who.time closed [])
+  pub give-up-frees : (given_up_at s who).answer ≡ Freed
+      → (given_up_at s who).tables ≡ put_back (desks_of s.marks) s who.desk (Some who.time) (finish held who.time closed [])
   unfolding given_up_among
-  give-up-frees e = ap (put_back (desks_of s.marks) s who.desk (Known who.time)) ((yielded-gives _ held who.time).1 e)
+  give-up-frees e = ap (put_back (desks_of s.marks) s who.desk (Some who.time)) ((yielded-gives _ held who.time).1 e)
 
 -- ---- progress: a call uses at most the rest, and none of it only at the end and for 1 and 2
 pub record Progress (rest : List ℕ) (a : Answer) : Type 0 where
@@ -182,12 +181,12 @@ module _ (s : Tables) (none : improper (desks_of s.marks) ≡ true) where
       ap (settled n s who.desk who.time) (sym (yes _ _ (estranged who.desk _) refl))
       ∙ ap (λ (t : Tables). done t out (says 0 who.time (O.Refused R.Desk))) (put_same n s who.desk who.time out)
 
-  pub no-relay-give-up : (who : Name) → given_up_at s who ≡ released s (G.Refused R.Desk)
+  pub no-relay-give-up : (who : Name) → given_up_at s who ≡ released s (Err R.Desk)
   unfolding given_up_among yielded
   no-relay-give-up who =
       let n = desks_of s.marks in
       ap (returned n s who.desk who.time) (sym (yes _ _ (estranged who.desk _) refl))
-      ∙ ap (λ (t : Tables). released t (G.Refused R.Desk)) (put_same n s who.desk (Known who.time) [])
+      ∙ ap (λ (t : Tables). released t (Err R.Desk)) (put_same n s who.desk (Some who.time) [])
 
   pub no-relay-lookup : (desk index : ℕ) (book : List ℕ) → looked_up s.marks s.stores desk index book ≡ []
   unfolding looked_up_among

@@ -1,6 +1,6 @@
 -- What `placed` does to the open samples of the desk that calls, and that it does nothing to those of every other desk. (d, t) is the
 -- desk and time of the call; at an unknown time no sample is open. Assumes nothing.
-use Rattle.std.specs.Prelude.{ℕ, ◌+◌, ◌≤◌, ◌<◌, ◌≡◌, Bool, true, false, ◌≢◌, List, length, get_or}
+use Rattle.std.specs.Prelude.{ℕ, ◌+◌, ◌≤◌, ◌<◌, ◌≡◌, Bool, true, false, ◌≢◌, List, length, get_or, Some, None}
 use Rattle.std.proofs.Math.Decide.{dec_lt}
 use Rattle.std.proofs.Common.{arith, ap, ◌∙◌, true≢false}
 use Rattle.std.proofs.Math.Path.{refl, sym}
@@ -10,8 +10,7 @@ use Rattle.std.proofs.Math.ListN.{get_or-eq_default}
 use Rattle.std.proofs.Math.Seq.{set_out}
 use Rattle.laws.specs.Rows.{each, eq, ne, eq_of, lt_of, ge-of, and_is, and-of, not_is}
 use Rattle.laws.specs.Table.{bit, seek, first, count, seek_hit, seek-first, seek-none, count-zero, count_set, first-set-here, first-set-other}
-use Rattle.paper.specs.declared.Time.{Time}
-use Rattle.paper.specs.declared.Time.TheVariants.{Known, Unknown}
+use Rattle.paper.specs.Time.{Time}
 use Rattle.sample.specs.declared.Place.{Place}
 use Rattle.sample.specs.Place.{bare, closed}
 use Rattle.memory.specs.Table.{vacant, mine, is_time, is_at}
@@ -19,9 +18,9 @@ use Rattle.memory.specs.Relay.{open_at, stands_at, placed, is_open}
 use Rattle.memory.proofs.Counted.{is_open_lem, is_none}
 
 -- ---- a number that is the running time: that is known, and is the number
-pub time-of : (t : Time) (u : ℕ) → is_time t u ≡ true → t ≡ Known u
-time-of (Known time) u e = ap Known (sym (eq_of u time e))
-time-of Unknown u e = absurd (true≢false (sym e))
+pub time-of : (t : Time) (u : ℕ) → is_time t u ≡ true → t ≡ Some u
+time-of (Some time) u e = ap Some (sym (eq_of u time e))
+time-of None u e = absurd (true≢false (sym e))
 
 -- ---- where a place is open, it is the desk's sample of that time; and a named one is closed otherwise
 abbrev pub Its : (d : ℕ) → Time → Place → Type 0
@@ -57,7 +56,7 @@ mine-blind d t e n y h = each (λ (b : Bool). b ≡ false) _ _ _ (λ u. ne _ _ (
 is_at-sees : (d : ℕ) (t : Time) → Sees d t (is_at d t)
 is_at-sees d t y h = each (λ (b : Bool). b ≡ y.used) _ _ _ (λ u. and_is _ _ (eq _ _ (h u).0) (h u).1 ∙ sym u) (λ u. sym u)
 
-is_at-blind : (d : ℕ) (t : Time) (e u : ℕ) → (e ≡ d → is_time t u ≡ false) → Blind d t (is_at e (Known u))
+is_at-blind : (d : ℕ) (t : Time) (e u : ℕ) → (e ≡ d → is_time t u ≡ false) → Blind d t (is_at e (Some u))
 is_at-blind d t e u n y h =
     each (λ (b : Bool). b ≡ false) _ _ _
     (λ k. each (λ (b : Bool). b ≡ false) _ _ _
@@ -94,8 +93,8 @@ pub record Moved (d : ℕ) (t : Time) (p : Place) (l k : List Place) : Type 0 wh
   pub own-is_at : count (is_at d t) k + bit (open_at d t l).used ≡ count (is_at d t) l + bit p.used
   pub own_open : count (is_at d t) l ≤ 1 → open_at d t k ≡ p
   pub other-mine : (e : ℕ) → e ≢ d → count (mine e) k ≡ count (mine e) l
-  pub other-is_at : (e u : ℕ) → (e ≡ d → is_time t u ≡ false) → count (is_at e (Known u)) k ≡ count (is_at e (Known u)) l
-  pub other-open : (e u : ℕ) → (e ≡ d → is_time t u ≡ false) → open_at e (Known u) k ≡ open_at e (Known u) l
+  pub other-is_at : (e u : ℕ) → (e ≡ d → is_time t u ≡ false) → count (is_at e (Some u)) k ≡ count (is_at e (Some u)) l
+  pub other-open : (e u : ℕ) → (e ≡ d → is_time t u ≡ false) → open_at e (Some u) k ≡ open_at e (Some u) l
 
 -- p stands at i: no test tells what stood there from the open sample of (d, t)
 record Stands (d : ℕ) (t : Time) (p : Place) (l : List Place) (i : ℕ) : Type 0 where
@@ -169,6 +168,6 @@ module _ (d : ℕ) (t : Time) (p : Place) (l : List Place) (named : Named d t p)
     own-is_at = counted (is_at d t) (is_at-sees d t);
     own_open = now-open;
     other-mine = λ e n. uncounted (mine e) (mine-blind d t e n);
-    other-is_at = λ e u n. uncounted (is_at e (Known u)) (is_at-blind d t e u n);
-    other-open = λ e u n. still_open e (Known u) (is_at-blind d t e u n);
+    other-is_at = λ e u n. uncounted (is_at e (Some u)) (is_at-blind d t e u n);
+    other-open = λ e u n. still_open e (Some u) (is_at-blind d t e u n);
   }

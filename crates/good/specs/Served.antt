@@ -1,7 +1,7 @@
 -- Whom the shares let through is answered neither 8 nor 9, and a desk with fewer than two open samples always is: by the numbers that are
 -- stored whatever the tables are, and by what a walk finds in good ones. That the place is there in good tables, `receive-stands` says.
 -- Assumes nothing.
-use Rattle.std.specs.Prelude.{ℕ, ◌<◌, ◌≡◌, refl, Bool, true, false, not, ◌≢◌, List, length}
+use Rattle.std.specs.Prelude.{ℕ, ◌<◌, ◌≡◌, refl, Bool, true, false, not, ◌≢◌, List, length, Some, None}
 use Rattle.std.proofs.Common.{arith, sym, ap, ◌∙◌, true≢false, inl, ⊎_elim}
 use Rattle.laws.specs.Rows.{◌or◌, ◌<?◌, each, no, ge, ne, ge-of, or-none}
 use Rattle.laws.specs.Table.{count}
@@ -10,8 +10,7 @@ use Rattle.paper.specs.Words.{number_of, kind_of}
 use Rattle.paper.specs.declared.Refusal.{Refusal}
 use Rattle.paper.specs.declared.Refusal.TheVariants as R
 use Rattle.paper.specs.declared.Sender.{Sender}
-use Rattle.paper.specs.declared.Time.{Time}
-use Rattle.paper.specs.declared.Time.TheVariants.{Known, Unknown}
+use Rattle.paper.specs.Time.{Time}
 use Rattle.paper.specs.declared.Outcome.{Outcome}
 use Rattle.paper.specs.declared.Outcome.TheVariants as O
 use Rattle.unit.specs.declared.Whole as W
@@ -98,8 +97,8 @@ taken-served h s desk t used rest (Refused r) k w =
     )
 taken-served h s desk t used rest (Whole x) k w =
     at-times (λ u. Served) s used _ (λ time. whole-served s time used _ x (data_of rest (Whole x))) (other R.Untimed (omega arith)) t
-taken-served h s desk (Known time) used rest (Part x) k w = joining-served h s time used _ _ x (data_of rest (Part x)) k
-taken-served h s desk Unknown used rest (Part x) k w = other R.Untimed (omega arith)
+taken-served h s desk (Some time) used rest (Part x) k w = joining-served h s time used _ _ x (data_of rest (Part x)) k
+taken-served h s desk None used rest (Part x) k w = other R.Untimed (omega arith)
 taken-served h s desk t used rest (Description x) k w =
     each N _ _ _ (λ e. other R.Fields (omega arith))
     (λ e. each N _ _ _ (λ e. other R.Size (omega arith))

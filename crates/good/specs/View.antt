@@ -1,6 +1,6 @@
 -- What a desk sees of good tables, and what a call does to it: the view of the desk that calls becomes what its own things say, that of
 -- every other desk stays, and so does all that lies beyond what n desks need. Assumes nothing.
-use Rattle.std.specs.Prelude.{ℕ, ◌+◌, ◌-◌, ◌*◌, ◌<◌, ◌≡◌, refl, Bool, false, ◌≢◌, take, drop, replicate}
+use Rattle.std.specs.Prelude.{ℕ, ◌+◌, ◌-◌, ◌*◌, ◌<◌, ◌≡◌, refl, Bool, false, ◌≢◌, take, drop, replicate, Some, None}
 use Rattle.std.proofs.Common.{arith, ◌∙◌, drop_at}
 use Rattle.std.proofs.Math.Path.{sym, ap}
 use Rattle.std.proofs.Math.Bool.{true}
@@ -13,8 +13,7 @@ use Rattle.paper.specs.Limits.{head_size, marks_each, places, rows_need, marks_n
 use Rattle.paper.specs.Words.{by_time}
 use Rattle.paper.specs.declared.Name.{Name}
 use Rattle.paper.specs.declared.Sender.{Sender}
-use Rattle.paper.specs.declared.Time.{Time}
-use Rattle.paper.specs.declared.Time.TheVariants.{Known, Unknown}
+use Rattle.paper.specs.Time.{Time}
 use Rattle.sample.specs.declared.Place.{Place}
 use Rattle.sample.specs.Place.{closed}
 use Rattle.style.specs.Shown.{shown}
@@ -40,7 +39,7 @@ pub record View : Type 0 where
 
 abbrev pub view : (n desk : ℕ) → Tables → View
 view n desk s = record {
-  at = λ time. open_at desk (Known time) (places_of n s);
+  at = λ time. open_at desk (Some time) (places_of n s);
   opens = count (mine desk) (places_of n s);
   row = row_of desk s.rows;
   marks = marks_of desk s.marks;
@@ -56,8 +55,8 @@ abbrev pub seen_at : View → Time → Place
 seen_at v t = by_time t v.at closed
 
 pub seen-at : (n desk : ℕ) (s : Tables) (t : Time) → open_at desk t (places_of n s) ≡ seen_at (view n desk s) t
-seen-at n desk s (Known time) = refl
-seen-at n desk s Unknown = open_unknown desk (places_of n s)
+seen-at n desk s (Some time) = refl
+seen-at n desk s None = open_unknown desk (places_of n s)
 
 -- the desk's own things, by its view, which are those that a call finds; and its view when a call has left o
 abbrev pub own_in : View → Time → (out : List ℕ) → Own
@@ -107,7 +106,7 @@ module _ (n : ℕ) (s : Tables) (desk : ℕ) (t : Time) (out : List ℕ) (o : Ow
   put-own =
       let r = put_back n s desk t o in
       same_view _ _
-      (λ u. each (λ (p : Place). open_at desk (Known u) (places_of n r) ≡ p) (is_time t u) o.place (open_at desk (Known u) (places_of n s))
+      (λ u. each (λ (p : Place). open_at desk (Some u) (places_of n r) ≡ p) (is_time t u) o.place (open_at desk (Some u) (places_of n s))
       (λ e. rw (← (time-of t u e)) put-stands)
       (λ e. m.other-open desk u (λ a. e)))
       (omega (arith, m.own-mine, ap (λ (p : Place). bit p.used) (seen-at n desk s t))) f.rows.same
@@ -143,12 +142,12 @@ module _ (n : ℕ) (s : Tables) (g : Good n s) where
     pub give-up-others : (e : ℕ) → e ≢ who.desk → view n e (given_up_at s who).tables ≡ view n e s
     give-up-others e q =
         give-up-each n s who.desk g.head (λ (r : Tables). view n e r ≡ view n e s) refl who.time
-        (λ h o k. put_other n s who.desk (Known who.time) [] o g h k e q)
+        (λ h o k. put_other n s who.desk (Some who.time) [] o g h k e q)
 
     pub give-up-beyond : Beyond n s (given_up_at s who).tables
     give-up-beyond =
         give-up-each n s who.desk g.head (Beyond n s) (unchanged n s) who.time
-        (λ h o k. put-beyond n s who.desk (Known who.time) [] o g h k)
+        (λ h o k. put-beyond n s who.desk (Some who.time) [] o g h k)
 
 pub set-up-beyond : (n : ℕ) (s : Tables) → Beyond n s (set_up n s).tables
 unfolding set_up
@@ -170,7 +169,7 @@ receives h v desk t rest out = ordered false h (own_in v t out) desk t rest
 
 -- 11, or the place is freed and the time marked
 abbrev pub gives_up : View → (time : ℕ) → Given
-gives_up v time = yielded false (own_in v (Known time) []) time
+gives_up v time = yielded false (own_in v (Some time) []) time
 
 module _ (n : ℕ) (s : Tables) (g : Good n s) (desk : ℕ) (h : desk < n) where
   module _ (t : Time) (rest out : List ℕ) where
@@ -211,14 +210,14 @@ module _ (n : ℕ) (s : Tables) (g : Good n s) (desk : ℕ) (h : desk < n) where
   unfolding given_up_among
   give-up-is time =
       ap (λ (k : ℕ). given_up_among k s desk time) g.head
-      ∙ ap (λ (one : Bool). returned n s desk time (yielded one (own_in (view n desk s) (Known time) []) time))
+      ∙ ap (λ (one : Bool). returned n s desk time (yielded one (own_in (view n desk s) (Some time) []) time))
       (sym (no _ true (no-stranger n desk s g h) (sym (no-lack-three n s g))))
 
   pub give-up-own : (time : ℕ)
-      → view n desk (given_up_at s (name desk time)).tables ≡ seen_after (view n desk s) (Known time) (gives_up (view n desk s) time).own
+      → view n desk (given_up_at s (name desk time)).tables ≡ seen_after (view n desk s) (Some time) (gives_up (view n desk s) time).own
   give-up-own time =
       ap (λ (r : Released). view n desk r.tables) (give-up-is time)
-      ∙ put-own n s desk (Known time) [] _ g h (give-up-left n s desk time false)
+      ∙ put-own n s desk (Some time) [] _ g h (give-up-left n s desk time false)
 
   pub lookup-is : (index : ℕ) (book : List ℕ) → looked_up s.marks s.stores desk index book
       ≡ shown book (view n desk s).store (newest_of (view n desk s).marks) index

@@ -1,13 +1,12 @@
 -- The relay that walks: as it was before the numbers were stored, a call counts the desk's open samples and the common use by a walk over
 -- the places, and puts no number down. In good tables every call is answered as it answers it, and leaves all that it leaves; but for the
 -- numbers. Assumes nothing.
-use Rattle.std.specs.Prelude.{ℕ, ◌≡◌, List, [], length, drop}
+use Rattle.std.specs.Prelude.{ℕ, ◌≡◌, List, [], length, drop, Some}
 use Rattle.laws.specs.Rows.{◌or◌}
 use Rattle.paper.specs.Limits.{head_size}
 use Rattle.paper.specs.declared.Name.{Name}
 use Rattle.paper.specs.declared.Sender.{Sender}
-use Rattle.paper.specs.declared.Time.{Time}
-use Rattle.paper.specs.declared.Time.TheVariants.{Known}
+use Rattle.paper.specs.Time.{Time}
 use Rattle.desk.specs.Desk.{After, Given}
 use Rattle.memory.specs.Relay.{Tables, desks_of, places_of, own_of, shares_of}
 use Rattle.memory.specs.Relay.{put_own, stranger, lacks_three, lacking, ordered}
@@ -27,13 +26,13 @@ walked_at s who rest out = walked_among (desks_of s.marks) s who.desk who.time r
 
 -- ---- give-up
 abbrev pub walked_returned : (n : ℕ) → Tables → (desk time : ℕ) → Given → Released
-walked_returned n s desk time a = released (put_own n s desk (Known time) a.own) a.answer
+walked_returned n s desk time a = released (put_own n s desk (Some time) a.own) a.answer
 
 unfoldable pub walked_given_up_among : (n : ℕ) → Tables → (desk time : ℕ) → Released
 walked_given_up_among n s desk time =
     walked_returned n s desk time
     (yielded (stranger n desk or lacks_three n (length s.places) (length s.rows) (length s.marks))
-    (own_of n s desk (Known time) []) time)
+    (own_of n s desk (Some time) []) time)
 
 abbrev pub walked_given_up : Tables → Name → Released
 walked_given_up s who = walked_given_up_among (desks_of s.marks) s who.desk who.time

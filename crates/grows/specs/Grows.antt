@@ -3,7 +3,7 @@ use Rattle.std.specs.Prelude.{ℕ, ◌≡◌, refl, Bool, true, false, List, len
 use Rattle.std.proofs.Common.{sym, ◌∙◌}
 use Rattle.laws.specs.Rows.{yes, no}
 use Rattle.paper.specs.declared.Refusal.TheVariants as R
-use Rattle.paper.specs.declared.Time.{Time}
+use Rattle.paper.specs.Time.{Time}
 use Rattle.paper.specs.declared.Outcome.TheVariants as O
 use Rattle.unit.specs.declared.Part.{Part}
 use Rattle.sample.specs.declared.Place.{Place}

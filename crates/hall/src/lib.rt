@@ -6,9 +6,8 @@ ghost use Rattle.paper.specs.Limits.{sample_most};
 ghost use Rattle.memory.specs.Relay.{set_up, received_at, given_up_at};
 ghost use Rattle.hall.specs.Hall.{tables_of, lent, heard, freed};
 
-use desk::GivenUp;
 use paper::limits::{MARKS_MOST, PLACES_MOST, ROWS_MOST, SAMPLE_MOST, STORES_MOST};
-use paper::{Answer, Name, Sender};
+use paper::{Answer, Name, Refusal, Sender};
 use sample::Place;
 
 #[derive(Clone, Copy)]
@@ -29,7 +28,7 @@ pub struct Heard {
 #[derive(Clone, Copy)]
 pub struct Freed {
     pub hall: Hall,
-    pub answer: GivenUp,
+    pub answer: Result<(), Refusal>,
 }
 
 // A relay for n desks, set up in memory that holds something else. Nine is no number of desks: where set-up is refused, so is every call.

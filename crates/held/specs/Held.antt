@@ -2,8 +2,8 @@
 use Rattle.std.specs.Prelude.{ℕ, List}
 use Rattle.paper.specs.declared.Answer.{Answer}
 use Rattle.sample.specs.declared.Place.{Place}
-use Rattle.desk.specs.declared.GivenUp.{GivenUp}
-use Rattle.memory.specs.declared.Started.{Started}
+use Rattle.desk.specs.GivenUp.{GivenUp}
+use Rattle.memory.specs.Started.{Started}
 use Rattle.memory.specs.Relay.{tables}
 use Rattle.memory.specs.Lent.{Slice, Lent}
 use Rattle.held.specs.declared.Begun.{Begun}

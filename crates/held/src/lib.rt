@@ -6,16 +6,14 @@ ghost use Rattle.std.specs.Prelude.{◌≡◌};
 ghost use Rattle.memory.specs.Lent.{SetsUp, Receives, GivesUp};
 ghost use Rattle.held.specs.Held.{begun, called, yielded, kept, kept_three};
 
-use desk::GivenUp;
-use memory::Started;
 use paper::limits::PLACES_MOST;
-use paper::{Answer, Name, Sender};
+use paper::{Answer, Name, Refusal, Sender};
 use sample::Place;
 
 #[derive(Clone, Copy)]
 pub struct Begun {
     pub places: [Place; PLACES_MOST],
-    pub answer: Started,
+    pub answer: Result<(), Refusal>,
 }
 
 #[derive(Clone, Copy)]
@@ -27,10 +25,10 @@ pub struct Called {
 #[derive(Clone, Copy)]
 pub struct Yielded {
     pub places: [Place; PLACES_MOST],
-    pub answer: GivenUp,
+    pub answer: Result<(), Refusal>,
 }
 
-fn begun_of(places: [Place; PLACES_MOST], answer: Started) -> Begun
+fn begun_of(places: [Place; PLACES_MOST], answer: Result<(), Refusal>) -> Begun
     ensures { result ≡ begun places answer }
 {
     Begun { places, answer }
@@ -42,7 +40,7 @@ fn called_of(places: [Place; PLACES_MOST], answer: Answer) -> Called
     Called { places, answer }
 }
 
-fn yielded_of(places: [Place; PLACES_MOST], answer: GivenUp) -> Yielded
+fn yielded_of(places: [Place; PLACES_MOST], answer: Result<(), Refusal>) -> Yielded
     ensures { result ≡ yielded places answer }
 {
     Yielded { places, answer }

@@ -1,17 +1,16 @@
 -- Joining, for every sender: in every run from set-up, of every desk, whatever it and all others send, each part that is kept is told
 -- TOTAL less the different parts kept, and each sample that is joined is its parts in THIS order, and fits the output. Assumes nothing.
-use Rattle.std.specs.Prelude.{ℕ, ◌<◌, ◌≡◌, Bool}
+use Rattle.memory.specs.Started.{Ready}
+use Rattle.std.specs.Prelude.{ℕ, ◌<◌, ◌≡◌, Bool, Some, None}
 use Rattle.std.proofs.Math.Path.{refl}
 use Rattle.std.proofs.Common.{sym, ap, subst}
 use Rattle.std.proofs.Math.Bool.{true, false}
 use mathlib.Core.List.{List, [], ◌∷◌}
 use Rattle.laws.specs.Rows.{◌⇒◌⁏◌, ◌=?◌, eq_of, ne_of}
-use Rattle.paper.specs.declared.Time.{Time}
-use Rattle.paper.specs.declared.Time.TheVariants.{Known, Unknown}
+use Rattle.paper.specs.Time.{Time}
 use Rattle.unit.specs.Layout.{read_of}
 use Rattle.sample.specs.declared.Place.{Place}
 use Rattle.memory.specs.Table.{is_time}
-use Rattle.memory.specs.declared.Started.TheVariants.{Ready}
 use Rattle.memory.specs.Relay.{Tables, places_of, shares_of, set_up, Done, Released}
 use Rattle.good.specs.Places.{time-of}
 use Rattle.good.specs.Good.{Good, set-up-good}
@@ -27,8 +26,8 @@ use Rattle.joined.specs.Joined.{Tally}
 
 -- so do those of a call
 tally-at : (v : View) (L : Ledger) → Tally v L → (at : Time) → Tallies (seen_at v at) (page_at L at)
-tally-at v L y (Known time) = y time
-tally-at v L y Unknown = closed-tallies
+tally-at v L y (Some time) = y time
+tally-at v L y None = closed-tallies
 
 -- the place of a time is left as p, and its page E as F E
 turned-page : (v : View) (L : Ledger) → Tally v L → (at : Time) (p : Place) (F : Parts → Parts) → Tallies p (F (page_at L at))
@@ -59,14 +58,14 @@ module _ (n : ℕ) (s : Tables) (g : Good n s) where
   own-call (give-up desk at) h L y =
       let v = view n desk s in
       let a = gives_up v at in
-      let r = give-up-right (shares_of n desk (places_of n s)) (own_in v (Known at) []) desk [] (L at) (y at) at in
+      let r = give-up-right (shares_of n desk (places_of n s)) (own_in v (Some at) []) desk [] (L at) (y at) at in
       let c = give-up desk at in
       let q : released a.answer ≡ got s c =
       sym (ap (λ (x : Released). released x.answer) (give-up-is n s g desk h at)) in (
         tt,
         subst (λ (w : View). Tally w (ledger_after L c (got s c))) (sym (give-up-own n s g desk h at))
-            (subst (λ (x : Got). Tally (seen_after v (Known at) a.own) (ledger_after L c x)) q
-            (turned-page v L y (Known at) a.own.place (λ E. given_up_by E a.answer) r)),
+            (subst (λ (x : Got). Tally (seen_after v (Some at) a.own) (ledger_after L c x)) q
+            (turned-page v L y (Some at) a.own.place (λ E. given_up_by E a.answer) r)),
       )
   own-call (lookup desk index book) h L y = (tt, y)
 

@@ -1,7 +1,7 @@
 -- One call of a desk: what it is told and handed is what the ledger says, and place and page tally after it. Assumes nothing.
 use Prim.Native.Nat.{ℕ, zero, suc, ◌+◌, ◌-◌, ◌≤◌, ◌<◌}
 use native.Mathlib.Omega.{arith}
-use Rattle.std.specs.Prelude.{◌≡◌, Bool, false, List, ◌++◌, length, drop}
+use Rattle.std.specs.Prelude.{◌≡◌, Bool, false, List, ◌++◌, length, drop, Some, None}
 use Rattle.std.proofs.Math.Path.{refl, sym, ap, subst}
 use Rattle.std.proofs.Common.{◌∙◌, true≢false, inl, inr, ⊎_elim}
 use Rattle.std.proofs.Math.Bool.{true}
@@ -12,8 +12,7 @@ use Rattle.paper.specs.Limits.{sample_most}
 use Rattle.paper.specs.Words.{number_of}
 use Rattle.paper.specs.declared.Refusal.{Refusal}
 use Rattle.paper.specs.declared.Refusal.TheVariants as R
-use Rattle.paper.specs.declared.Time.{Time}
-use Rattle.paper.specs.declared.Time.TheVariants.{Known, Unknown}
+use Rattle.paper.specs.Time.{Time}
 use Rattle.joining.specs.Joining.{Piece, kinds, together, string_of, ordered, sound}
 use Rattle.unit.specs.declared.Whole as W
 use Rattle.paper.specs.declared.Outcome.TheVariants as O
@@ -181,8 +180,8 @@ module _ (h : Shares) (s : Own) (desk : ℕ) (rest : List ℕ) (E : Parts) (tp :
   refused-any (Skipped y) t used next r k = (not-spoiled r k, tp)
   refused-any (Refused w) t used next r k = (not-spoiled r k, tp)
   refused-any (Whole w) t used next r k = (not-spoiled r k, tp)
-  refused-any (Part x) (Known time) used next r k = (λ z. absurd (not-spoiled r k z), stays-entered r k x)
-  refused-any (Part x) Unknown used next r k = (k, stays-entered r k x)
+  refused-any (Part x) (Some time) used next r k = (λ z. absurd (not-spoiled r k z), stays-entered r k x)
+  refused-any (Part x) None used next r k = (k, stays-entered r k x)
   refused-any (Description w) t used next r k = (not-spoiled r k, tp)
 
   abbrev NoPartAfter : After → Type 0
@@ -214,7 +213,7 @@ module _ (h : Shares) (s : Own) (desk : ℕ) (rest : List ℕ) (E : Parts) (tp :
       at-times (λ u. NoPartAfter) s used _ (λ time. whole-right time used _ w (data_of rest (Whole w))) (λ z. omega arith, tp) t
   taken-right room t used (Part x) k c =
       at-times (RightOf (Part x)) s used _ (λ time. part_right s time used _ E x (data_of rest (Part x)) h desk tp c room)
-      (refused-any (Part x) Unknown used Unknown R.Untimed (inr (inr refl))) t
+      (refused-any (Part x) None used None R.Untimed (inr (inr refl))) t
   taken-right room t used (Description w) k c = (noted-no-part s.store _ w.sidx (data_of rest (Description w)), tp)
 
   pub receive-right : (t : Time) → RightOf (read_of rest).unit t (in-turn false h s desk t rest)

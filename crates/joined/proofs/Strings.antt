@@ -1,5 +1,6 @@
 -- A joined string is well-formed: in every run from set-up, whatever the rests are, an answer whole or joined leaves an output whose first
 -- bytes, as many as it tells the string has, are well-formed in the U that it tells. Assumes nothing.
+use Rattle.memory.specs.Started.{Ready}
 use Rattle.std.specs.Prelude.{ℕ, ◌+◌, ◌≤◌, ◌≡◌, Bool, List, length, take, drop}
 use Rattle.std.proofs.Common.{arith, sym, ap, ◌∙◌}
 use Rattle.std.proofs.Math.Path.{subst}
@@ -9,7 +10,7 @@ use Rattle.std.proofs.lemmas.List.{take-append-le}
 use Rattle.laws.specs.Rows.{◌or◌, each, ge-of}
 use Rattle.paper.specs.Limits.{sample_most}
 use Rattle.paper.specs.declared.Sender.{Sender}
-use Rattle.paper.specs.declared.Time.{Time}
+use Rattle.paper.specs.Time.{Time}
 use Rattle.text.specs.Unicode.{WellFormed}
 use Rattle.joining.specs.Joining.{together, string_of}
 use Rattle.joining.specs.Strings.{string-short}
@@ -31,7 +32,6 @@ use Rattle.style.specs.Store as S
 use Rattle.desk.specs.declared.Shares.{Shares}
 use Rattle.desk.specs.Desk.{Own, After, whole_taken, sample_of, completed, joining, description_taken, taken, received}
 use Rattle.desk.proofs.Effects.{at-times}
-use Rattle.memory.specs.declared.Started.TheVariants.{Ready}
 use Rattle.memory.specs.Relay.{Tables, own_of, stored_shares, stranger, lacking, set_up, ordered, received_among, received_at, sender}
 use Rattle.good.specs.Good.{Good}
 use Rattle.good.specs.Leaves.{part-sane}

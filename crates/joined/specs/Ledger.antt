@@ -1,6 +1,6 @@
 -- A ledger: what was kept of a desk's samples, told from its calls and what they got and from nothing else; and what is said by it: how
 -- many parts are missing, and which bytes are handed out. Definitions only. Assumes nothing.
-use Rattle.std.specs.Prelude.{ℕ, suc, ◌-◌, ◌≤◌, ◌<◌, ◌≡◌, Bool, true, false, ◌⊎◌, List, [], ◌∷◌, ◌++◌, length, drop}
+use Rattle.std.specs.Prelude.{ℕ, suc, ◌-◌, ◌≤◌, ◌<◌, ◌≡◌, Bool, true, false, ◌⊎◌, List, [], ◌∷◌, ◌++◌, length, drop, Some, None, Ok, Err}
 use Rattle.std.proofs.Math.Option.{Option, none, some}
 use Rattle.laws.specs.Rows.{◌⇒◌⁏◌, ◌=?◌}
 use Rattle.laws.specs.Sums.{sum}
@@ -8,8 +8,7 @@ use Rattle.laws.specs.Table.{bit}
 use Rattle.paper.specs.Limits.{sample_most, parts_most}
 use Rattle.paper.specs.Words.{number_of, by_time}
 use Rattle.paper.specs.declared.Facts.{Facts}
-use Rattle.paper.specs.declared.Time.{Time}
-use Rattle.paper.specs.declared.Time.TheVariants.{Known, Unknown}
+use Rattle.paper.specs.Time.{Time}
 use Rattle.paper.specs.declared.Outcome.{Outcome}
 use Rattle.paper.specs.declared.Outcome.TheVariants as O
 use Rattle.joining.specs.Joining.{Piece, piece, kinds, together, string_of, ordered, sound}
@@ -18,8 +17,7 @@ use Rattle.unit.specs.declared.Unit as U
 use Rattle.unit.specs.declared.Unit.TheVariants.{End, Skipped, Refused, Whole, Part, Description}
 use Rattle.unit.specs.Layout.{read_of, data_of}
 use Rattle.sample.specs.Arrival.{in_order}
-use Rattle.desk.specs.declared.GivenUp.{GivenUp}
-use Rattle.desk.specs.declared.GivenUp.TheVariants as G
+use Rattle.desk.specs.GivenUp.{GivenUp}
 use Rattle.memory.specs.Table.{is_time}
 use Rattle.peace.specs.Run.{Call, receive, give-up, lookup, Got, answered, released, shown}
 
@@ -71,8 +69,8 @@ entered_by E rest (Description w) o = E
 
 -- a sample that was given up is open no more
 abbrev pub given_up_by : Parts → GivenUp → Parts
-given_up_by E G.Freed = nothing
-given_up_by E (G.Refused r) = E
+given_up_by E (Ok u) = nothing
+given_up_by E (Err r) = E
 
 abbrev pub ledger_after : Ledger → Call → Got → Ledger
 ledger_after L (receive desk at rest out) (answered a o) = λ t. is_time at t ⇒ entered_by (L t) rest (read_of rest).unit a.outcome ⁏ L t
@@ -174,8 +172,8 @@ SaysUnit E t rest out End x o = NoPart x
 SaysUnit E t rest out (Skipped y) x o = NoPart x
 SaysUnit E t rest out (Refused r) x o = NoPart x
 SaysUnit E t rest out (Whole w) x o = NoPart x
-SaysUnit E (Known time) rest out (Part p) x o = SaysPart E time p (data_of rest (Part p)) out x o
-SaysUnit E Unknown rest out (Part p) x o = Untaken x
+SaysUnit E (Some time) rest out (Part p) x o = SaysPart E time p (data_of rest (Part p)) out x o
+SaysUnit E None rest out (Part p) x o = Untaken x
 SaysUnit E t rest out (Description w) x o = NoPart x
 
 -- ---- a desk's calls one after the other, and what each got

@@ -1,10 +1,9 @@
 -- One line of the listing for one answer: document 01, 'Worked by hand'. Assumes nothing.
-use Rattle.std.specs.Prelude.{ℕ, ◌≡◌, List, ◌++◌}
+use Rattle.std.specs.Prelude.{ℕ, ◌≡◌, List, ◌++◌, Some, None}
 use Rattle.paper.specs.Words.{number_of}
 use Rattle.paper.specs.declared.Outcome.{Outcome}
 use Rattle.paper.specs.declared.Outcome.TheVariants.{End, Whole, Joined, Kept, Repeat, Described, Skipped, Refused}
-use Rattle.paper.specs.declared.Time.{Time}
-use Rattle.paper.specs.declared.Time.TheVariants.{Known, Unknown}
+use Rattle.paper.specs.Time.{Time}
 use Rattle.paper.specs.declared.Answer.{Answer}
 use Rattle.lines.specs.Words.{word_at, word_used, word_time, word_unknown, word_blank, new_line, word_end, word_whole, word_joined, word_kept}
 use Rattle.lines.specs.Words.{word_repeat, word_described, word_skipped, word_refused}
@@ -24,8 +23,8 @@ outcome_text (Refused r) = word_refused ++ digits (number_of r)
 
 -- the running time, and `?` where it is unknown
 unfoldable pub time_text : Time → List ℕ
-time_text (Known time) = digits time
-time_text Unknown = word_unknown
+time_text (Some time) = digits time
+time_text None = word_unknown
 
 -- `at P used N time T`, the outcome, and a new line
 unfoldable pub line_of : (place : ℕ) → Time → Answer → List ℕ

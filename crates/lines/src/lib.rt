@@ -63,8 +63,8 @@ fn put_time(out: &mut [u8], at: usize, t: Time) -> usize
     ensures { page out.new result ≡ typed out.old at (word_time ++ time_text t) }
 {
     match t {
-        Time::Known(time) => put_count(out, at, b" time ", time as usize),
-        Time::Unknown => put_text(out, at, b" time ?"),
+        Some(time) => put_count(out, at, b" time ", time as usize),
+        None => put_text(out, at, b" time ?"),
     }
 }
 

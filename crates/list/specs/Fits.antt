@@ -1,14 +1,13 @@
 -- The listing of a payload is at most 65,536 long: a line has at most 46 bytes, each unit but a last one uses three bytes at
 -- least, and so there are at most 1,366 lines and `end`. Assumes nothing.
-use Rattle.std.specs.Prelude.{ℕ, zero, suc, ◌+◌, ◌*◌, ◌/◌, ◌<◌, ◌≤◌, ◌≡◌, ◌⊎◌, List, ◌++◌, length, drop, replicate}
+use Rattle.std.specs.Prelude.{ℕ, zero, suc, ◌+◌, ◌*◌, ◌/◌, ◌<◌, ◌≤◌, ◌≡◌, ◌⊎◌, List, ◌++◌, length, drop, replicate, Some, None}
 use Rattle.std.proofs.Common.{arith, ⊎_elim, length-append, length-drop}
 use Rattle.laws.specs.Rows.{each, ne_of, ge-of}
 use Rattle.paper.specs.Limits.{sample_most}
 use Rattle.paper.specs.Words.{number_of}
 use Rattle.paper.specs.declared.Refusal.{Refusal}
 use Rattle.paper.specs.declared.Refusal.TheVariants as R
-use Rattle.paper.specs.declared.Time.{Time}
-use Rattle.paper.specs.declared.Time.TheVariants.{Known, Unknown}
+use Rattle.paper.specs.Time.{Time}
 use Rattle.paper.specs.declared.Outcome.{Outcome}
 use Rattle.paper.specs.declared.Outcome.TheVariants as O
 use Rattle.paper.specs.declared.Answer.{Answer}
@@ -56,8 +55,8 @@ outcome-most (O.Refused r) h = let d = length_digits (number_of r) 1 (number-mos
 
 time-most : (t : Time) → Within t → length (time_text t) ≤ 10
 unfolding time_text
-time-most (Known time) h = omega (arith, length_digits time 9 (omega arith))
-time-most Unknown h = omega arith
+time-most (Some time) h = omega (arith, length_digits time 9 (omega arith))
+time-most None h = omega arith
 
 line-most : (at : ℕ) (t : Time) (a : Answer) → at ≤ payload_most → Within t → a.used ≤ payload_most → Brief a.outcome
     → length (line_of at t a) ≤ 46
@@ -122,7 +121,7 @@ fits input =
     each (λ (l : List ℕ). length l ≤ 65536) _ _ _ (λ e. omega arith)
     (λ e.
     let p = ge-of payload_most (length input) e in
-    let m = lines-most (length input) fresh (Known 0) 0 input fresh-good (omega arith) (omega arith) in
+    let m = lines-most (length input) fresh (Some 0) 0 input fresh-good (omega arith) (omega arith) in
     omega arith)
 
 -- so in a text of 65,536 bytes all of it stands at the front, and its length is answered

@@ -1,9 +1,8 @@
 -- The listing of one payload: document 01, 'Worked by hand'. Assumes nothing.
-use Rattle.std.specs.Prelude.{ℕ, zero, suc, ◌+◌, List, ◌++◌, length, drop, replicate}
+use Rattle.std.specs.Prelude.{ℕ, zero, suc, ◌+◌, List, ◌++◌, length, drop, replicate, Some}
 use Rattle.laws.specs.Rows.{◌⇒◌⁏◌, ◌<?◌, ◌=?◌}
 use Rattle.paper.specs.Limits.{sample_most, places_most, rows_need, marks_need, stores_need}
-use Rattle.paper.specs.declared.Time.{Time}
-use Rattle.paper.specs.declared.Time.TheVariants.{Known}
+use Rattle.paper.specs.Time.{Time}
 use Rattle.sample.specs.Place.{closed}
 use Rattle.memory.specs.Relay.{Tables, Done, tables, set_up, received_at, sender}
 use Rattle.lines.specs.Words.{word_end, word_too_long, new_line}
@@ -41,4 +40,4 @@ lines_from (suc turns) s t at rest =
 
 -- every unit uses a byte at least, so there are at most as many as bytes
 unfoldable pub listed : (input : List ℕ) → List ℕ
-listed input = payload_most <? length input ⇒ too_long ⁏ lines_from (length input) fresh (Known 0) 0 input
+listed input = payload_most <? length input ⇒ too_long ⁏ lines_from (length input) fresh (Some 0) 0 input

@@ -1,10 +1,9 @@
 -- What a call of one desk tells is short: its numbers, its time, and the SLEN that its place keeps. Assumes nothing.
-use Rattle.std.specs.Prelude.{ℕ, ◌<◌, ◌≤◌, ◌≡◌, refl, Bool, true, false, ◌⊎◌, List, length}
+use Rattle.std.specs.Prelude.{ℕ, ◌<◌, ◌≤◌, ◌≡◌, refl, Bool, true, false, ◌⊎◌, List, length, Some, None}
 use Rattle.std.proofs.Common.{arith, sym, true≢false, inl, inr}
 use Rattle.laws.specs.Rows.{◌⇒◌⁏◌, ◌and◌, each, eq_of, ge-of, and-of, or-none, not-of}
 use Rattle.paper.specs.Limits.{sample_most}
-use Rattle.paper.specs.declared.Time.{Time}
-use Rattle.paper.specs.declared.Time.TheVariants.{Known, Unknown}
+use Rattle.paper.specs.Time.{Time}
 use Rattle.paper.specs.declared.Outcome.{Outcome}
 use Rattle.paper.specs.declared.Outcome.TheVariants as O
 use Rattle.unit.specs.declared.Whole as W
@@ -66,8 +65,8 @@ Brief (O.Refused r) = Prim.Unit {0}
 
 -- a known time fits 32 bits
 abbrev pub Within : Time → Type 0
-Within (Known time) = time < 4294967296
-Within Unknown = Prim.Unit {0}
+Within (Some time) = time < 4294967296
+Within None = Prim.Unit {0}
 
 pub record Modest (used : ℕ) (a : After) : Type 0 where
   pub next : Within a.answer.next
@@ -154,13 +153,13 @@ taken-modest : (g : Shares) (s : Own) (desk : ℕ) (t : Time) (used : ℕ) (rest
 taken-modest g s desk t used rest End h n k = record { next = n; uses = refl; words = tt }
 taken-modest g s desk t used rest (Skipped y) h n k = record { next = n; uses = refl; words = k }
 taken-modest g s desk t used rest (Refused r) h n k = record { next = n; uses = refl; words = tt }
-taken-modest g s desk (Known time) used rest (Whole w) h n k =
+taken-modest g s desk (Some time) used rest (Whole w) h n k =
     whole-modest s time used _ w (data_of rest (Whole w)) (later-within time w.sdur)
-taken-modest g s desk (Known time) used rest (Part x) h n k =
+taken-modest g s desk (Some time) used rest (Part x) h n k =
     joining-modest g s time used (later_part time x) (sample_of s.place desk time x) x (data_of rest (Part x)) (part-within time x n)
     (sample-modest s.place desk time x h) k
-taken-modest g s desk Unknown used rest (Whole w) h n k = record { next = tt; uses = refl; words = tt }
-taken-modest g s desk Unknown used rest (Part x) h n k = record { next = tt; uses = refl; words = tt }
+taken-modest g s desk None used rest (Whole w) h n k = record { next = tt; uses = refl; words = tt }
+taken-modest g s desk None used rest (Part x) h n k = record { next = tt; uses = refl; words = tt }
 taken-modest g s desk t used rest (Description w) h n k = described-modest s t used w (data_of rest (Description w)) n
 
 pub modest : (g : Shares) (s : Own) (desk : ℕ) (t : Time) (rest : List ℕ) → s.place.slen ≤ sample_most → Within t

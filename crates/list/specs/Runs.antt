@@ -1,18 +1,17 @@
 -- The laws of the listing's code: set-up is not refused, each call goes on, one turn of the loop, and its end. Assumes nothing.
-use Rattle.std.specs.Prelude.{ℕ, zero, suc, ◌+◌, ◌-◌, ◌<◌, ◌≤◌, ◌≡◌, refl, Bool, true, false, List, ◌++◌, length, take, drop, replicate}
+use Rattle.memory.specs.Started.{Ready}
+use Rattle.std.specs.Prelude.{ℕ, zero, suc, ◌+◌, ◌-◌, ◌<◌, ◌≤◌, ◌≡◌, refl, Bool, true, false, List, ◌++◌, length, take, drop, replicate, Some}
 use Rattle.std.proofs.Common.{arith, sym, ◌∙◌, length-drop, drop-drop}
 use Rattle.std.proofs.Math.Path.{ap}
 use Rattle.std.proofs.lemmas.List.{length-replicate}
 use Rattle.laws.specs.Rows.{◌⇒◌⁏◌, ◌or◌, ◌<?◌, ◌=?◌, yes, no, lt, ge, eq, ne}
 use Rattle.laws.specs.Region.{tail-is}
 use Rattle.paper.specs.Limits.{sample_most, places_most, rows_need, marks_need, stores_need}
-use Rattle.paper.specs.declared.Time.{Time}
-use Rattle.paper.specs.declared.Time.TheVariants.{Known}
+use Rattle.paper.specs.Time.{Time}
 use Rattle.sample.specs.declared.Place.{Place}
 use Rattle.sample.specs.Place.{closed}
 use Rattle.desk.specs.Desk.{Own, received}
 use Rattle.desk.proofs.Effects.{progress}
-use Rattle.memory.specs.declared.Started.TheVariants.{Ready}
 use Rattle.memory.specs.Relay.{Tables, Prepared, Done, tables, places_of, own_of, shares_of, improper, short, lacking, set_up, settled}
 use Rattle.memory.specs.Relay.{ordered, received_at, sender}
 use Rattle.good.specs.Good.{Good, ready-exactly, set-up-good, receive-good}
@@ -105,7 +104,7 @@ pub record Listing (all : Page) (input text : List ℕ) (s : Tables) (t : Time) 
   pub same : typed text next (lines_from turns s t at (drop at input)) ≡ all
 
 pub begin : (input text : List ℕ) (s : Tables) → Good 1 s
-    → Listing (typed text 0 (lines_from (length input) s (Known 0) 0 input)) input text s (Known 0) 0 0
+    → Listing (typed text 0 (lines_from (length input) s (Some 0) 0 input)) input text s (Some 0) 0 0
 begin input text s g = record { inside = omega arith; good = g; turns = length input; enough = omega arith; same = refl }
 
 module _ (all : Page) (input text : List ℕ) (s : Tables) (t : Time) (at next : ℕ) (l : Listing all input text s t at next) where
@@ -151,7 +150,7 @@ unfolding listed
 listed-long input text after behind h e = e ∙ ap (typed text 0) (yes _ _ (lt _ _ h) refl)
 
 pub listed-units : (input text after : List ℕ) (behind : ℕ) (s : Tables) → length input ≤ payload_most → s ≡ fresh
-    → page after behind ≡ typed text 0 (lines_from (length input) s (Known 0) 0 input) → page after behind ≡ typed text 0 (listed input)
+    → page after behind ≡ typed text 0 (lines_from (length input) s (Some 0) 0 input) → page after behind ≡ typed text 0 (listed input)
 unfolding listed
 listed-units input text after behind s h f e =
-    e ∙ ap (typed text 0) (no _ _ (ge _ _ h) (ap (λ (r : Tables). lines_from (length input) r (Known 0) 0 input) f))
+    e ∙ ap (typed text 0) (no _ _ (ge _ _ h) (ap (λ (r : Tables). lines_from (length input) r (Some 0) 0 input) f))

@@ -2,7 +2,6 @@
 #![tactic(auto)]
 
 ghost use Rattle.std.specs.Prelude.{◌≡◌, length};
-ghost use Rattle.paper.specs.declared.Time.TheVariants.{Known};
 ghost use Rattle.memory.specs.Relay.{tables};
 ghost use Rattle.good.specs.Good.{Good};
 ghost use Rattle.lines.specs.Typed.{page, typed};
@@ -29,10 +28,10 @@ fn list_units(
     ensures { page text.new result
         ≡ typed text.old 0
         (lines_from (length input.now) (tables fresh rows.old marks.old stores.old)
-        (Known 0) 0 input.now) }
+        (Some 0) 0 input.now) }
 {
     let mut places = fresh;
-    let mut time = Time::Known(0);
+    let mut time = Some(0);
     let mut at = 0;
     let mut next = 0;
     while at < input.len() {

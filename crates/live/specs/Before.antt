@@ -1,11 +1,10 @@
 -- The relay as it was before a time could be unknown: SDUR 0 is added like any other. A call at a known time is answered as it answers it
 -- exactly if no unknown time comes of it; and with a known start and no SDUR 0 in TYPE 1 units and last parts, so is every call over a
 -- whole payload. Assumes nothing.
-use Rattle.std.specs.Prelude.{ℕ, zero, suc, List, [], ◌∷◌, drop}
+use Rattle.std.specs.Prelude.{ℕ, zero, suc, List, [], ◌∷◌, drop, Some}
 use Rattle.laws.specs.Rows.{◌⇒◌⁏◌, ◌or◌, ◌=?◌}
 use Rattle.paper.specs.declared.Sender.{Sender}
-use Rattle.paper.specs.declared.Time.{Time}
-use Rattle.paper.specs.declared.Time.TheVariants.{Known}
+use Rattle.paper.specs.Time.{Time}
 use Rattle.unit.specs.declared.Unit.{Unit}
 use Rattle.unit.specs.declared.Unit.TheVariants.{End, Skipped, Refused, Whole, Part, Description}
 use Rattle.unit.specs.Layout.{read_of, data_of}
@@ -28,9 +27,9 @@ next_before time (Description w) = time
 -- ---- and a call: all else is as it is, 18 too, which from a known time it never comes to
 abbrev pub taken_before : Shares → Own → (desk : ℕ) → Time → (used : ℕ) → (rest : List ℕ) → Unit → After
 taken_before h s desk t used rest (Whole w) =
-    timed s t used (λ time. whole_taken s time used (Known (next_before time (Whole w))) w (data_of rest (Whole w)))
+    timed s t used (λ time. whole_taken s time used (Some (next_before time (Whole w))) w (data_of rest (Whole w)))
 taken_before h s desk t used rest (Part x) =
-    timed s t used (λ time. part_taken h s desk time used (Known (next_before time (Part x))) x (data_of rest (Part x)))
+    timed s t used (λ time. part_taken h s desk time used (Some (next_before time (Part x))) x (data_of rest (Part x)))
 taken_before h s desk t used rest End = taken h s desk t used rest End
 taken_before h s desk t used rest (Skipped y) = taken h s desk t used rest (Skipped y)
 taken_before h s desk t used rest (Refused r) = taken h s desk t used rest (Refused r)

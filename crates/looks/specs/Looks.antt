@@ -1,15 +1,13 @@
 -- What of the table is looked at, and which place is kept or freed. Assumes nothing.
-use Rattle.std.specs.Prelude.{ℕ, min}
+use Rattle.std.specs.Prelude.{ℕ, min, Some, Ok, Err}
 use Rattle.laws.specs.Rows.{◌⇒◌⁏◌, ◌and◌, ◌<?◌}
 use Rattle.paper.specs.Limits.{desks_most, places}
 use Rattle.paper.specs.Words.{by_time}
 use Rattle.paper.specs.declared.Name.{Name}
 use Rattle.paper.specs.declared.Sender.{Sender}
-use Rattle.paper.specs.declared.Time.{Time}
-use Rattle.paper.specs.declared.Time.TheVariants.{Known}
+use Rattle.paper.specs.Time.{Time}
 use Rattle.unit.specs.declared.Unit.{Unit}
-use Rattle.desk.specs.declared.GivenUp.{GivenUp}
-use Rattle.desk.specs.declared.GivenUp.TheVariants as G
+use Rattle.desk.specs.GivenUp.{GivenUp}
 use Rattle.desk.specs.Desk.{is_text}
 use Rattle.memory.specs.Relay.{sender}
 
@@ -36,9 +34,9 @@ spot_of at low m len total = at <? m ⇒ at ⁏ low <? m and 1 <? total ⇒ low 
 
 -- whose sample a name is: its desk's, at its time
 abbrev pub sender_of : Name → Sender
-sender_of who = sender who.desk (Known who.time)
+sender_of who = sender who.desk (Some who.time)
 
 -- which place is to be freed after a give-up: `len` where none
 abbrev pub freed_at : GivenUp → (at len : ℕ) → ℕ
-freed_at G.Freed at len = at
-freed_at (G.Refused r) at len = len
+freed_at (Ok u) at len = at
+freed_at (Err r) at len = len

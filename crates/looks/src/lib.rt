@@ -6,9 +6,8 @@ ghost use Rattle.memory.specs.Relay.{desks_of};
 ghost use Rattle.looks.specs.Looks.{reach_of, reach_at, reach_for, asked_of, spot_of, sender_of, freed_at};
 
 use asks::Arrival;
-use desk::GivenUp;
 use paper::limits::{DESKS_MOST, PLACES_EACH};
-use paper::{Name, Sender, Time};
+use paper::{Name, Refusal, Sender};
 use unit::Reading;
 
 // How many of the places that are lent are the desks'; none where their number is improper.
@@ -28,8 +27,8 @@ pub fn reach(marks: &[u32], who: Sender, len: usize) -> usize
 {
     let t = who.time;
     match t {
-        Time::Known(_) => all(marks, len),
-        Time::Unknown => 0,
+        Some(_) => all(marks, len),
+        None => 0,
     }
 }
 
@@ -72,15 +71,15 @@ pub fn sender_of(who: Name) -> Sender
 {
     Sender {
         desk: who.desk,
-        time: Time::Known(who.time),
+        time: Some(who.time),
     }
 }
 
-pub fn freed_at(g: GivenUp, at: usize, len: usize) -> usize
+pub fn freed_at(g: Result<(), Refusal>, at: usize, len: usize) -> usize
     ensures { result ≡ freed_at g at len }
 {
     match g {
-        GivenUp::Freed => at,
-        GivenUp::Refused(_) => len,
+        Ok(()) => at,
+        Err(_) => len,
     }
 }

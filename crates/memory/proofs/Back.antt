@@ -1,6 +1,6 @@
 -- A call that leaves the desk's own things as they stood leaves the tables as they stood; and a desk has no sample at an unknown time.
 -- Assumes nothing.
-use Rattle.std.specs.Prelude.{ℕ, suc, ◌+◌, ◌*◌, ◌≤◌, ◌≡◌, refl, Bool, true, false, cond, List, [], ◌∷◌, ◌++◌, length, get_or, set, drop}
+use Rattle.std.specs.Prelude.{ℕ, suc, ◌+◌, ◌*◌, ◌≤◌, ◌≡◌, refl, Bool, true, false, cond, List, [], ◌∷◌, ◌++◌, length, get_or, set, drop, None}
 use Rattle.std.proofs.Common.{arith, sym, ap, ◌∙◌, true≢false, take-append-drop}
 use Rattle.std.proofs.Math.ListN.{get_or-eq_default}
 use Rattle.std.proofs.Math.Seq.{set_out}
@@ -9,8 +9,7 @@ use Rattle.laws.specs.Rows.{◌⇒◌⁏◌, ◌and◌, ◌=?◌, each, ge-of}
 use Rattle.laws.specs.Region.{splice-part}
 use Rattle.laws.specs.Table.{seek}
 use Rattle.paper.specs.Limits.{head_size, finished_most, marks_each, store_size, places}
-use Rattle.paper.specs.declared.Time.{Time}
-use Rattle.paper.specs.declared.Time.TheVariants.{Unknown}
+use Rattle.paper.specs.Time.{Time}
 use Rattle.sample.specs.declared.Place.{Place}
 use Rattle.sample.specs.Place.{bare, closed}
 use Rattle.desk.specs.Desk.{Own}
@@ -26,11 +25,11 @@ never true true = refl
 never true false = refl
 never false b = refl
 
-nowhere : (d : ℕ) (l : List Place) → seek (is_at d Unknown) l ≡ length l
+nowhere : (d : ℕ) (l : List Place) → seek (is_at d None) l ≡ length l
 nowhere d [] = refl
-nowhere d (y ∷ l) = ap (λ (b : Bool). cond b 0 (suc (seek (is_at d Unknown) l))) (never y.used (y.desk =? d)) ∙ ap suc (nowhere d l)
+nowhere d (y ∷ l) = ap (λ (b : Bool). cond b 0 (suc (seek (is_at d None) l))) (never y.used (y.desk =? d)) ∙ ap suc (nowhere d l)
 
-pub open_unknown : (d : ℕ) (l : List Place) → open_at d Unknown l ≡ closed
+pub open_unknown : (d : ℕ) (l : List Place) → open_at d None l ≡ closed
 open_unknown d l = get_or-eq_default l closed (omega (arith, nowhere d l))
 
 -- ---- the desk's sample put back where it stood changes nothing

@@ -11,7 +11,7 @@ use Rattle.std.proofs.Math.Seq.{set_out}
 use Rattle.laws.specs.Rows.{◌⇒◌⁏◌, ◌<?◌, each, lt, ge, lt_of, ge-of, and-of, not_is}
 use Rattle.laws.specs.Table.{seek, seek_hit}
 use Rattle.paper.specs.Limits.{opens_at, common_at, mark_most}
-use Rattle.paper.specs.declared.Time.{Time}
+use Rattle.paper.specs.Time.{Time}
 use Rattle.sample.specs.declared.Place.{Place}
 use Rattle.sample.specs.Place.{bare, closed}
 use Rattle.memory.specs.Table.{vacant, is_at}

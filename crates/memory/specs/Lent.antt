@@ -7,8 +7,8 @@ use Rattle.paper.specs.declared.Answer.{Answer}
 use Rattle.paper.specs.declared.Name.{Name}
 use Rattle.paper.specs.declared.Sender.{Sender}
 use Rattle.sample.specs.declared.Place.{Place}
-use Rattle.desk.specs.declared.GivenUp.{GivenUp}
-use Rattle.memory.specs.declared.Started.{Started}
+use Rattle.desk.specs.GivenUp.{GivenUp}
+use Rattle.memory.specs.Started.{Started}
 use Rattle.memory.specs.Relay.{Tables, tables, prepared, set_up, done, received_at, released, given_up_at}
 
 -- a slice that is lent to be written, one that is lent to be read, and the tables

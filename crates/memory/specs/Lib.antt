@@ -1,3 +1,4 @@
+pub mod Started
 pub mod Table
 pub mod Relay
 pub mod Lent

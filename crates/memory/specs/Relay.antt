@@ -1,6 +1,7 @@
 -- The relay: document 01, 'Shares of the places', refusals 1 and 2, and what a call of one desk does to the memory of all. The desk's
 -- own definition (`received`) settles the call from its own things; this page says which they are, and puts them back. Assumes nothing.
-use Rattle.std.specs.Prelude.{ℕ, zero, suc, ◌+◌, ◌-◌, ◌*◌, Bool, not, List, [], ◌∷◌, ◌++◌, length, take, drop, get_or, set, replicate}
+use Rattle.memory.specs.Started.{Ready}
+use Rattle.std.specs.Prelude.{ℕ, zero, suc, ◌+◌, ◌-◌, ◌*◌, Bool, not, List, [], ◌∷◌, ◌++◌, length, take, drop, get_or, set, replicate, Some, Ok, Err}
 use Rattle.std.proofs.lemmas.List.Edits.{sets}
 use Rattle.laws.specs.Rows.{◌⇒◌⁏◌, ◌or◌, ◌and◌, ◌<?◌, ◌=?◌}
 use Rattle.laws.specs.Region.{part, splice}
@@ -13,18 +14,15 @@ use Rattle.paper.specs.declared.Refusal.TheVariants as R
 use Rattle.paper.specs.declared.Answer.{Answer}
 use Rattle.paper.specs.declared.Name.{Name}
 use Rattle.paper.specs.declared.Sender.{Sender}
-use Rattle.paper.specs.declared.Time.{Time}
-use Rattle.paper.specs.declared.Time.TheVariants.{Known}
+use Rattle.paper.specs.Time.{Time}
 use Rattle.sample.specs.declared.Place.{Place}
 use Rattle.sample.specs.Place.{closed}
 use Rattle.style.specs.Shown.{shown}
 use Rattle.desk.specs.declared.Shares.{Shares}
-use Rattle.desk.specs.declared.GivenUp.{GivenUp}
-use Rattle.desk.specs.declared.GivenUp.TheVariants as G
+use Rattle.desk.specs.GivenUp.{GivenUp}
 use Rattle.desk.specs.Desk.{Own, After, Given, own, refuse, newest_of, received, given_up}
 use Rattle.memory.specs.Table.{vacant, mine, is_at}
-use Rattle.memory.specs.declared.Started.{Started}
-use Rattle.memory.specs.declared.Started.TheVariants.{Ready, Refused}
+use Rattle.memory.specs.Started.{Started}
 
 -- ---- the lent memory, and what of it is whose
 pub record Tables : Type 0 where
@@ -178,12 +176,12 @@ prepared s a = record { tables = s; answer = a }
 
 -- 0, or the refusal's number
 abbrev pub started_number : Started → ℕ
-started_number Ready = 0
-started_number (Refused r) = number_of r
+started_number (Ok u) = 0
+started_number (Err r) = number_of r
 
 unfoldable pub set_up : (n : ℕ) → Tables → Prepared
 set_up n s =
-    improper n or lacking n s ⇒ prepared s (Refused R.Desk)
+    improper n or lacking n s ⇒ prepared s (Err R.Desk)
     ⁏ prepared (fresh_tables n s) Ready
 
 -- ---- receive: 1, 2, then the desk's own order
@@ -236,16 +234,16 @@ abbrev pub released : Tables → GivenUp → Released
 released s a = record { tables = s; answer = a }
 
 unfoldable pub yielded : (one : Bool) → Own → (time : ℕ) → Given
-yielded one s time = one ⇒ record { own = s; answer = G.Refused R.Desk } ⁏ given_up s time
+yielded one s time = one ⇒ record { own = s; answer = Err R.Desk } ⁏ given_up s time
 
 abbrev pub returned : (n : ℕ) → Tables → (desk time : ℕ) → Given → Released
-returned n s desk time a = released (put_back n s desk (Known time) a.own) a.answer
+returned n s desk time a = released (put_back n s desk (Some time) a.own) a.answer
 
 unfoldable pub given_up_among : (n : ℕ) → Tables → (desk time : ℕ) → Released
 given_up_among n s desk time =
     returned n s desk time
     (yielded (stranger n desk or lacks_three n (length s.places) (length s.rows) (length s.marks))
-    (own_of n s desk (Known time) []) time)
+    (own_of n s desk (Some time) []) time)
 
 abbrev pub given_up_at : Tables → Name → Released
 given_up_at s who = given_up_among (desks_of s.marks) s who.desk who.time

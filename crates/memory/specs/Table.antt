@@ -2,7 +2,7 @@
 use Rattle.std.specs.Prelude.{ℕ, Bool, false, not}
 use Rattle.laws.specs.Rows.{◌and◌, ◌=?◌}
 use Rattle.paper.specs.Words.{by_time}
-use Rattle.paper.specs.declared.Time.{Time}
+use Rattle.paper.specs.Time.{Time}
 use Rattle.sample.specs.declared.Place.{Place}
 
 -- the place is free; it is a desk's

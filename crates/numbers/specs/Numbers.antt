@@ -1,16 +1,15 @@
 -- Answers as numbers, for callers in other languages: a lent row gets the values one after the other. Assumes nothing.
-use Rattle.std.specs.Prelude.{ℕ, List, ◌∷◌}
+use Rattle.std.specs.Prelude.{ℕ, List, ◌∷◌, Some, None}
 use Rattle.laws.specs.Rows.{◌⇒◌⁏◌, ◌=?◌}
 use Rattle.paper.specs.declared.Name.{Name}
 use Rattle.paper.specs.declared.Sender.{Sender}
-use Rattle.paper.specs.declared.Time.{Time}
-use Rattle.paper.specs.declared.Time.TheVariants.{Known, Unknown}
-use Rattle.style.specs.declared.Checked.{Checked}
+use Rattle.paper.specs.Time.{Time}
+use Rattle.style.specs.Checked.{Checked}
 use Rattle.style.specs.Book.{checked_number, checked_values}
-use Rattle.boxes.specs.declared.Found.{Found}
+use Rattle.boxes.specs.Found.{Found}
 use Rattle.boxes.specs.Words.{found_kind, found_values}
 use Rattle.memory.specs.Relay.{sender}
-use Rattle.writer.specs.declared.Written.{Written}
+use Rattle.writer.specs.Written.{Written}
 use Rattle.writer.specs.Write.{written_number, written_values}
 
 -- ---- the numbers of each answer
@@ -32,7 +31,7 @@ name_of desk time = record { desk = desk; time = time }
 
 -- ---- the running time, from two numbers: whether it is known, 0 where not, and the time
 abbrev pub time_of : (known time : ℕ) → Time
-time_of known time = known =? 0 ⇒ Unknown ⁏ Known time
+time_of known time = known =? 0 ⇒ None ⁏ Some time
 
 -- who sends a unit
 abbrev pub sent_by : (desk known time : ℕ) → Sender

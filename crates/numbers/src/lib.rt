@@ -8,12 +8,9 @@ ghost use Rattle.desk.specs.Desk.{given_up_number};
 ghost use Rattle.memory.specs.Relay.{started_number};
 ghost use Rattle.numbers.specs.Numbers.{checked_row, written_row, stepped_row, name_of, time_of, sent_by};
 
-use boxes::Found;
-use desk::GivenUp;
-use memory::Started;
-use paper::{Name, Sender, Time};
-use style::Checked;
-use writer::Written;
+use paper::{Name, Refusal, Sender, Time};
+use style::BadRecord;
+use writer::Payload;
 
 // Stores a number in a row; past the end, nothing.
 pub fn put_at(row: &mut [u64], i: usize, v: usize)
@@ -38,31 +35,31 @@ fn put_three(row: &mut [u64], a: usize, b: usize, c: usize)
     put_at(row, 2, c);
 }
 
-pub fn put_checked(row: &mut [u64], c: Checked)
+pub fn put_checked(row: &mut [u64], c: Result<usize, BadRecord>)
     ensures { row.new ≡ sets row.old 0 (checked_row c) }
 {
     match c {
-        Checked::Good(n) => put_two(row, 0, n),
-        Checked::Refused(r, i) => put_two(row, paper::number(r), i),
+        Ok(n) => put_two(row, 0, n),
+        Err(b) => put_two(row, paper::number(b.why), b.at),
     }
 }
 
-pub fn put_written(row: &mut [u64], w: Written)
+pub fn put_written(row: &mut [u64], w: Result<Payload, Refusal>)
     ensures { row.new ≡ sets row.old 0 (written_row w) }
 {
     match w {
-        Written::Payload { len, count } => put_three(row, 0, len, count),
-        Written::Refused(r) => put_at(row, 0, paper::number(r)),
+        Ok(Payload { len, count }) => put_three(row, 0, len, count),
+        Err(r) => put_at(row, 0, paper::number(r)),
     }
 }
 
-pub fn put_stepped(row: &mut [u64], next: usize, f: Found)
+pub fn put_stepped(row: &mut [u64], next: usize, f: Result<Option<usize>, Refusal>)
     ensures { row.new ≡ sets row.old 0 (stepped_row next f) }
 {
     match f {
-        Found::End => put_two(row, next, 0),
-        Found::Box(t) => put_three(row, next, 1, t),
-        Found::Refused(r) => put_three(row, next, 2, paper::number(r)),
+        Ok(None) => put_two(row, next, 0),
+        Ok(Some(t)) => put_three(row, next, 1, t),
+        Err(r) => put_three(row, next, 2, paper::number(r)),
     }
 }
 
@@ -76,9 +73,9 @@ fn time_of(known: usize, time: u32) -> Time
     ensures { result ≡ time_of known time }
 {
     if known == 0 {
-        return Time::Unknown;
+        return None;
     }
-    Time::Known(time)
+    Some(time)
 }
 
 pub fn sent_by(desk: usize, known: usize, time: u32) -> Sender
@@ -88,20 +85,20 @@ pub fn sent_by(desk: usize, known: usize, time: u32) -> Sender
     Sender { desk, time: t }
 }
 
-pub fn started_number(s: Started) -> usize
+pub fn started_number(s: Result<(), Refusal>) -> usize
     ensures { result ≡ started_number s }
 {
     match s {
-        Started::Ready => 0,
-        Started::Refused(r) => paper::number(r),
+        Ok(()) => 0,
+        Err(r) => paper::number(r),
     }
 }
 
-pub fn given_up_number(g: GivenUp) -> usize
+pub fn given_up_number(g: Result<(), Refusal>) -> usize
     ensures { result ≡ given_up_number g }
 {
     match g {
-        GivenUp::Freed => 0,
-        GivenUp::Refused(r) => paper::number(r),
+        Ok(()) => 0,
+        Err(r) => paper::number(r),
     }
 }

@@ -1,12 +1,11 @@
 -- One call of the desk, whichever it is: if it counts it gets what is due to it, and the desk has afterwards what the next stage says.
 -- Assumes nothing.
-use Rattle.std.specs.Prelude.{ℕ, ◌≤◌, ◌≡◌, Bool, true, false, List, ◌++◌, length}
+use Rattle.std.specs.Prelude.{ℕ, ◌≤◌, ◌≡◌, Bool, true, false, List, ◌++◌, length, Some}
 use Rattle.std.proofs.Common.{arith, sym, ap, subst, ◌∙◌, true≢false}
 use Rattle.std.proofs.Math.Path.{refl}
 use Rattle.laws.specs.Rows.{◌<?◌, each, yes, no, eq, ge, ge-of, and-of}
 use Rattle.paper.specs.Limits.{sample_most}
-use Rattle.paper.specs.declared.Time.{Time}
-use Rattle.paper.specs.declared.Time.TheVariants.{Known}
+use Rattle.paper.specs.Time.{Time}
 use Rattle.unit.specs.declared.Part as P
 use Rattle.unit.specs.declared.Unit as U
 use Rattle.unit.specs.declared.Unit.TheVariants.{Part}
@@ -76,27 +75,27 @@ module _ (c : Caption) (M room : ℕ) (writable : Writable c M room) (u : uncut 
     -- ---- a call that counts
     module _ (desk : ℕ) (rest out : List ℕ) (space : sample_most ≤ length out) where
       received_as : (x : U.Unit) → (read_of rest).unit ≡ x
-          → taken (lone v) (own_in v (Known time) out) desk (Known time) (read_of rest).used rest x
-          ≡ receives (lone v) v desk (Known time) rest out
+          → taken (lone v) (own_in v (Some time) out) desk (Some time) (read_of rest).used rest x
+          ≡ receives (lone v) v desk (Some time) rest out
       unfolding ordered received
       received_as x e =
           no _ _ refl (no _ _ (ge _ _ space)
-          (ap (taken (lone v) (own_in v (Known time) out) desk (Known time) (read_of rest).used rest) (sym e)))
+          (ap (taken (lone v) (own_in v (Some time) out) desk (Some time) (read_of rest).used rest) (sym e)))
 
       -- it is due what payload number k is in stage s
       abbrev Reached : Stage → (k : ℕ) → Type 0
-      Reached s k = Serves c M time v out (due c M time s k) (brought c M s k) (receives (lone v) v desk (Known time) rest out)
+      Reached s k = Serves c M time v out (due c M time s k) (brought c M s k) (receives (lone v) v desk (Some time) rest out)
 
       module _ (k : ℕ) (b : Begins c M k rest) where
-        cut-served : Sparing v (receive desk (Known time) rest out) → long c M ≡ true → (came : ℕ → Bool)
+        cut-served : Sparing v (receive desk (Some time) rest out) → long c M ≡ true → (came : ℕ → Bool)
             → Holds c M time v (gathering came) → Reached (gathering came) k
         cut-served sparing l came h =
             let r = reads-part l k rest b in
             let x = r.part in
             let d = data_of rest (Part x) in
             let used = (read_of rest).used in
-            let few : asks (own_in v (Known time) out) desk (Known time) rest (Part x) ≡ true → Few v.opens =
-            λ a. sparing (sym (no _ _ (ge _ _ space) (sym (ap (asks (own_in v (Known time) out) desk (Known time) rest) r.is ∙ a)))) in
+            let few : asks (own_in v (Some time) out) desk (Some time) rest (Part x) ≡ true → Few v.opens =
+            λ a. sparing (sym (no _ _ (ge _ _ space) (sym (ap (asks (own_in v (Some time) out) desk (Some time) rest) r.is ∙ a)))) in
             same-served c M time v out refl refl (received_as (Part x) r.is)
             (each-case (came k) (again-served c M time v out room writable u came h space l desk used (later_part time x) k x d r.bears)
             (λ new. new-served c M time v out room writable u came h space l desk used (later_part time x) k x d r.bears new few))
@@ -107,7 +106,7 @@ module _ (c : Caption) (M room : ℕ) (writable : Writable c M room) (u : uncut 
             same-served c M time v out (ap (due c M time (gathering came)) (sym r.2)) (ap (brought c M (gathering came)) (sym r.2))
             (received_as (whole_unit c) r.0) (whole-served c M time v out room writable u came h space l (read_of rest).used _ _ r.1)
 
-        served : Sparing v (receive desk (Known time) rest out) → (s : Stage) → Holds c M time v s → Soon s
+        served : Sparing v (receive desk (Some time) rest out) → (s : Stage) → Holds c M time v s → Soon s
             → Reached s (payload_number (read_of rest).unit)
         served sparing (gathering came) h soon =
             let t = sym (begins-told k rest b).1 in
@@ -136,15 +135,15 @@ module _ (c : Caption) (M room : ℕ) (writable : Writable c M room) (u : uncut 
           (passed-standing (v.at time) s (own_got v x) h.standing);
     }
 
-    counted : (desk : ℕ) (rest out : List ℕ) → offers rest out ≡ true → Sparing v (receive desk (Known time) rest out) → OneOf c M rest
-        → (s : Stage) → Holds c M time v s → Soon s → Step (receive desk (Known time) rest out) s
+    counted : (desk : ℕ) (rest out : List ℕ) → offers rest out ≡ true → Sparing v (receive desk (Some time) rest out) → OneOf c M rest
+        → (s : Stage) → Holds c M time v s → Soon s → Step (receive desk (Some time) rest out) s
     counted desk rest out r sparing one s h soon =
         let space : sample_most ≤ length out = each-case (length out <? sample_most) (λ e. absurd (true≢false (sym r ∙ sym (yes _ _ e refl)))) (λ e. ge-of _ _ e) in
-        let n : counts time (receive desk (Known time) rest out) ≡ true = sym (yes _ _ (eq time time refl) (sym r)) in
+        let n : counts time (receive desk (Some time) rest out) ≡ true = sym (yes _ _ (eq time time refl) (sym r)) in
         let a = served desk rest out space one.number one.begins sparing s h soon in
         record {
           gets = λ e. (a.outcome, a.left);
-          holds = subst (Holds c M time (own_view v (receive desk (Known time) rest out))) (yes _ _ n refl) a.holds;
+          holds = subst (Holds c M time (own_view v (receive desk (Some time) rest out))) (yes _ _ n refl) a.holds;
           hands = sym (yes _ _ (eq time time refl) (sym (ap hands_out a.outcome))) ∙ yes _ _ n refl;
         }
 

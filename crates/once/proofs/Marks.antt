@@ -1,6 +1,6 @@
 -- What a desk's call does to its finished times: a call that finishes a sample marks its time, and no other call does. And a unit that is
 -- not of TYPE 1 to 4 leaves the sample of its time as it was. Assumes nothing.
-use Rattle.std.specs.Prelude.{ℕ, ◌<◌, ◌≡◌, Bool, true, false, List, [], length}
+use Rattle.std.specs.Prelude.{ℕ, ◌<◌, ◌≡◌, Bool, true, false, List, [], length, Some, None}
 use Rattle.std.proofs.Common.{arith, sym, ◌∙◌, true≢false, get_or-set_other}
 use Rattle.std.proofs.Math.Path.{refl, subst}
 use Rattle.std.proofs.Math.ListN.{length-set}
@@ -9,8 +9,7 @@ use Rattle.laws.specs.Rows.{◌⇒◌⁏◌, ◌=?◌, each, no, ne}
 use Rattle.paper.specs.Words.{number_of}
 use Rattle.paper.specs.declared.Refusal.{Refusal}
 use Rattle.paper.specs.declared.Refusal.TheVariants as R
-use Rattle.paper.specs.declared.Time.{Time}
-use Rattle.paper.specs.declared.Time.TheVariants.{Known, Unknown}
+use Rattle.paper.specs.Time.{Time}
 use Rattle.unit.specs.declared.Whole as W
 use Rattle.unit.specs.declared.Part as P
 use Rattle.unit.specs.declared.Description as D
@@ -46,12 +45,12 @@ module _ (s : Own) (t : Time) where
 
 module _ (s : Own) (at : ℕ) (some : 0 < length s.marks) where
   abbrev MarkedAt : After → Type 0
-  MarkedAt = Marked s (Known at)
+  MarkedAt = Marked s (Some at)
 
-  stays : Marks s (Known at) false s
-  stays = same s (Known at)
+  stays : Marks s (Some at) false s
+  stays = same s (Some at)
 
-  ended : (p : Place) (o : List ℕ) → Marks s (Known at) true (finish s at p o)
+  ended : (p : Place) (o : List ℕ) → Marks s (Some at) true (finish s at p o)
   unfolding ◌⇒◌⁏◌
   ended p o = record {
     at = at;
@@ -69,7 +68,7 @@ module _ (s : Own) (at : ℕ) (some : 0 < length s.marks) where
   completed-marks : (used : ℕ) (next : Time) (q : Place) → MarkedAt (completed s at used next q)
   unfolding completed ◌=?◌
   completed-marks used next q =
-      each MarkedAt _ _ _ (λ k. unmarked s (Known at) _ refl refl refl) (λ k. each MarkedAt _ _ _ (λ k. ended _ _) (λ k. ended _ _))
+      each MarkedAt _ _ _ (λ k. unmarked s (Some at) _ refl refl refl) (λ k. each MarkedAt _ _ _ (λ k. ended _ _) (λ k. ended _ _))
 
   part-marks : (h : Shares) (used : ℕ) (next : Time) (q : Place) (x : P.Part) (d : List ℕ) → MarkedAt (joining h s at used next q x d)
   unfolding joining ◌=?◌
@@ -99,8 +98,8 @@ module _ (h : Shares) (s : Own) (desk : ℕ) (t : Time) (used : ℕ) (rest : Lis
       subst (λ (b : Bool). Marks s t b a.own) (sym (noted-idle s.store (newest_of s.marks) w.sidx d).0)
       (unmarked s t a.own refl (get_or-set_other s.marks 1 0 n.answer.newest 0 (λ e. omega arith)) (length-set s.marks 1 _))
 
-  untimed-marks : Marked s Unknown (refuse s used Unknown R.Untimed)
-  untimed-marks = refused s Unknown R.Untimed (λ e. omega arith)
+  untimed-marks : Marked s None (refuse s used None R.Untimed)
+  untimed-marks = refused s None R.Untimed (λ e. omega arith)
 
   taken-marks : 0 < length s.marks → (x : U.Unit) → ByReader x → Marked s t (taken h s desk t used rest x)
   taken-marks some End k = same s t
@@ -138,11 +137,11 @@ module _ (h : Shares) (v : View) (desk : ℕ) (t : Time) (rest out : List ℕ) w
       (λ q. taken-idles h its desk t _ rest (read_of rest).unit (read-by-reader rest) (no _ _ q refl ∙ e)))
 
 pub give-up-marks : (v : View) (at : ℕ) → 0 < length v.marks
-    → Marks (own_in v (Known at) []) (Known at) (freeing (gives_up v at).answer) (gives_up v at).own
+    → Marks (own_in v (Some at) []) (Some at) (freeing (gives_up v at).answer) (gives_up v at).own
 unfolding yielded given_up
 give-up-marks v at some =
-    let o = own_in v (Known at) [] in
-    each G _ _ _ (λ q. same o (Known at)) (λ q. each G _ _ _ (λ q. ended o at some _ _) (λ q. same o (Known at)))
+    let o = own_in v (Some at) [] in
+    each G _ _ _ (λ q. same o (Some at)) (λ q. each G _ _ _ (λ q. ended o at some _ _) (λ q. same o (Some at)))
   where
     G : Given → Type 0
-    G a = Marks (own_in v (Known at) []) (Known at) (freeing a.answer) a.own
+    G a = Marks (own_in v (Some at) []) (Some at) (freeing a.answer) a.own

@@ -1,6 +1,8 @@
 -- Handed out once: a sample whose payloads all come to a modest desk is handed out at exactly one call, whatever all others do.
 -- Assumes nothing.
-use Rattle.std.specs.Prelude.{ℕ, suc, ◌+◌, ◌<◌, ◌≡◌, Bool, List, [], ◌∷◌, length, replicate}
+use Rattle.memory.specs.Started.{Ready}
+use Rattle.writer.specs.Written.{packed, packed-count}
+use Rattle.std.specs.Prelude.{ℕ, suc, ◌+◌, ◌<◌, ◌≡◌, Bool, List, [], ◌∷◌, length, replicate, Err}
 use native.Mathlib.Omega.{arith}
 use Rattle.std.proofs.Math.Path.{refl, ap, subst}
 use Rattle.std.proofs.Common.{sym, ◌∙◌, true≢false, ⊎_elim}
@@ -11,11 +13,10 @@ use Rattle.laws.specs.Sums.{sum-zero, sum_ones}
 use Rattle.laws.specs.Table.{bit}
 use Rattle.paper.specs.Limits.{finished_most}
 use Rattle.paper.specs.declared.Refusal.{Refusal}
-use Rattle.paper.specs.declared.Time.{Time}
+use Rattle.paper.specs.Time.{Time}
 use Rattle.paper.specs.declared.Outcome.{Outcome}
 use Rattle.unit.specs.Layout.{read_of}
 use Rattle.writer.specs.Write.{Caption, long, count, uncut, unwritable, After, written}
-use Rattle.writer.specs.declared.Written.TheVariants.{Payload, Refused}
 use Rattle.writer.specs.Returns.{Writable}
 use Rattle.writer.proofs.Returns.{writable}
 use Rattle.writer.proofs.Payloads.{total}
@@ -23,7 +24,6 @@ use Rattle.sample.specs.Place.{bare}
 use Rattle.finished.proofs.Until.{none-late}
 use Rattle.desk.specs.Desk.{sample_of}
 use Rattle.memory.specs.Table.{is_time}
-use Rattle.memory.specs.declared.Started.TheVariants.{Ready}
 use Rattle.memory.specs.Relay.{Tables, set_up}
 use Rattle.good.specs.Good.{set-up-good}
 use Rattle.good.specs.View.{View, view}
@@ -43,20 +43,20 @@ use Rattle.once.proofs.Calls.{begins-told, step}
 use Rattle.once.specs.Once.{remaining, Awaits}
 
 -- what the writer was not refused
-written_is : (c : Caption) (M k : ℕ) (out : List ℕ) (len N : ℕ) → (written c M k out).answer ≡ Payload len N
+written_is : (c : Caption) (M k : ℕ) (out : List ℕ) (len N : ℕ) → (written c M k out).answer ≡ packed len N
     → (unwritable c M (length out) ≡ false) × (uncut c M ≡ false) × (N ≡ count c M)
 unfolding written
 written_is c M k out len N =
     each G _ _ _ (λ q e. never e)
-    (λ q1. each G _ _ _ (λ q e. never e) (λ q2. each G _ _ _ (λ q e. never e) (λ q3. each G _ _ _ (λ q e. never e) (λ q4 e. (q1, q2, cc)))))
+    (λ q1. each G _ _ _ (λ q e. never e) (λ q2. each G _ _ _ (λ q e. never e) (λ q3. each G _ _ _ (λ q e. never e) (λ q4 e. (q1, q2, sym (packed-count e))))))
   where
     Good : Type 0
     Good = (unwritable c M (length out) ≡ false) × (uncut c M ≡ false) × (N ≡ count c M)
 
     G : After → Type 0
-    G a = a.answer ≡ Payload len N → Good
+    G a = a.answer ≡ packed len N → Good
 
-    never : {r : Refusal} → Refused r ≡ Payload len N → Good
+    never : {r : Refusal} → Err r ≡ packed len N → Good
     never e = let z : ◌≡◌ {A = ℕ} 0 1 = cc in absurd (omega arith)
 
 module _ (c : Caption) (M room : ℕ) (w : Writable c M room) (u : uncut c M ≡ false) (time : ℕ) where

@@ -1,21 +1,19 @@
 -- A call that does not count: it leaves the sample as it was, and its time is late afterwards as the next stage says. Assumes nothing.
-use Rattle.std.specs.Prelude.{ℕ, suc, ◌≤◌, ◌<◌, ◌≡◌, Bool, List, [], ◌∷◌, ◌++◌, length}
+use Rattle.desk.specs.GivenUp.{Freed}
+use Rattle.std.specs.Prelude.{ℕ, suc, ◌≤◌, ◌<◌, ◌≡◌, Bool, List, [], ◌∷◌, ◌++◌, length, Some, Ok, Err}
 use Rattle.std.proofs.Common.{arith, subst, ◌∙◌, true≢false, ⊎_elim}
 use Rattle.std.proofs.Math.Path.{refl, sym, ap}
 use Rattle.std.proofs.Math.Bool.{true, false}
 use Rattle.std.proofs.Math.ListN.{length-append}
 use Rattle.laws.specs.Rows.{◌⇒◌⁏◌, ◌=?◌, each, yes, eq, eq_of}
 use Rattle.paper.specs.Limits.{finished_most}
-use Rattle.paper.specs.declared.Time.{Time}
-use Rattle.paper.specs.declared.Time.TheVariants.{Known}
+use Rattle.paper.specs.Time.{Time}
 use Rattle.sample.specs.declared.Place.{Place}
 use Rattle.finished.specs.Times.{late, marked_row, marked_used}
 use Rattle.finished.specs.Marks.{row_after, used_after}
 use Rattle.finished.proofs.Marks.{length-kept}
 use Rattle.finished.proofs.Until.{found-until, no_other}
-use Rattle.desk.specs.declared.GivenUp.{GivenUp}
-use Rattle.desk.specs.declared.GivenUp.TheVariants.{Freed}
-use Rattle.desk.specs.declared.GivenUp.TheVariants as G
+use Rattle.desk.specs.GivenUp.{GivenUp}
 use Rattle.desk.specs.Desk.{Own, in_use, Given, given_up}
 use Rattle.memory.specs.Table.{is_time}
 use Rattle.memory.specs.Relay.{yielded}
@@ -94,15 +92,15 @@ module _ (v : View) (t : Time) (out : List ℕ) (o : Own) (time : ℕ) (f : Fit 
 
 -- ---- a give-up that frees nothing leaves all as it was
 is-freed : (a : GivenUp) → freeing a ≡ true → a ≡ Freed
-is-freed Freed e = refl
-is-freed (G.Refused r) e = absurd (true≢false (sym e))
+is-freed (Ok u) e = refl
+is-freed (Err r) e = absurd (true≢false (sym e))
 
-unfreed : (v : View) (at : ℕ) → ((gives_up v at).answer ≡ Freed → ⊥) → (gives_up v at).own ≡ own_in v (Known at) []
+unfreed : (v : View) (at : ℕ) → ((gives_up v at).answer ≡ Freed → ⊥) → (gives_up v at).own ≡ own_in v (Some at) []
 unfolding yielded given_up
 unfreed v at = each Stays _ _ _ (λ q n. refl) (λ q. each Stays _ _ _ (λ u n. absurd (n refl)) (λ u n. refl))
   where
     Stays : Given → Type 0
-    Stays a = (a.answer ≡ Freed → ⊥) → a.own ≡ own_in v (Known at) []
+    Stays a = (a.answer ≡ Freed → ⊥) → a.own ≡ own_in v (Some at) []
 
 module _ (time : ℕ) (v : View) (f : Fit v) where
   timely-receive : (desk : ℕ) (at : Time) (rest out : List ℕ)
@@ -114,9 +112,9 @@ module _ (time : ℕ) (v : View) (f : Fit v) where
   timely-give-up : (desk at : ℕ) → NotGivenUp time (give-up desk at) (own_got v (give-up desk at)) → (s : Stage) → Timely v time s
       → Timely (own_view v (give-up desk at)) time (passed s (own_got v (give-up desk at)))
   timely-give-up desk at n (gathering came) h =
-      after-early v (Known at) [] _ time f _ (give-up-marks v at f.marks)
+      after-early v (Some at) [] _ time f _ (give-up-marks v at f.marks)
       (λ e q. n (sym (eq_of time at q)) (ap released (is-freed (gives_up v at).answer e))) h
-  timely-give-up desk at n (finished since) h = after-since v (Known at) [] _ time f _ (give-up-marks v at f.marks) since h
+  timely-give-up desk at n (finished since) h = after-since v (Some at) [] _ time f _ (give-up-marks v at f.marks) since h
 
   timely-lookup : (desk index : ℕ) (book : List ℕ) (s : Stage) → Timely v time s → Timely v time (passed s (own_got v (lookup desk index book)))
   unfolding ◌⇒◌⁏◌
@@ -141,7 +139,7 @@ module _ (time : ℕ) (v : View) (f : Fit v) where
         (λ e.
         let q = sym (eq_of time at e) in
         ap (λ (o : Own). o.place) (unfreed v at (λ z. g q (ap released z))) ∙ ap v.at q) (λ e. refl);
-    fit = after-fit v (Known at) [] _ time f _ (give-up-marks v at f.marks);
+    fit = after-fit v (Some at) [] _ time f _ (give-up-marks v at f.marks);
     timely = timely-give-up desk at g s h;
     none = refl;
   }

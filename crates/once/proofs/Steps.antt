@@ -1,7 +1,7 @@
 -- One call that counts: it gets what is due to it, and the desk has afterwards what the next stage says. Assumes nothing.
 use Prim.Native.Nat.{ℕ, ◌+◌, ◌≤◌, ◌<◌}
 use Rattle.std.proofs.Common.{arith, ap, ◌∙◌, true≢false}
-use Rattle.std.specs.Prelude.{◌≡◌, length, drop}
+use Rattle.std.specs.Prelude.{◌≡◌, length, drop, Some}
 use Rattle.std.proofs.Math.Path.{refl, sym, subst}
 use Rattle.std.proofs.Math.Bool.{Bool, true, false, not}
 use mathlib.Core.List.{List, [], ◌++◌}
@@ -11,8 +11,7 @@ use Rattle.std.proofs.Math.Seq.{get_or-set_same}
 use Rattle.laws.specs.Rows.{◌=?◌, ◌<?◌, each, yes, no, eq, lt, ge, eq_of, lt_of, ge-of}
 use Rattle.paper.specs.Limits.{sample_most, finished_most}
 use Rattle.paper.specs.declared.Refusal.TheVariants as R
-use Rattle.paper.specs.declared.Time.{Time}
-use Rattle.paper.specs.declared.Time.TheVariants.{Known}
+use Rattle.paper.specs.Time.{Time}
 use Rattle.paper.specs.declared.Outcome.{Outcome}
 use Rattle.paper.specs.declared.Outcome.TheVariants as O
 use Rattle.unit.specs.declared.Part as P
@@ -48,18 +47,18 @@ pub with-again : (came : ℕ → Bool) (k : ℕ) → came k ≡ true → with ca
 with-again came k e = λ i j. each (λ (b : Bool). b ≡ came j) (j =? k) true (came j) (λ q. sym (ap came (eq_of j k q) ∙ e)) (λ q. refl) i
 
 module _ (c : Caption) (M time : ℕ) (v : View) (out : List ℕ) where
-  stood : (o : Own) → (seen_after v (Known time) o).at time ≡ o.place
+  stood : (o : Own) → (seen_after v (Some time) o).at time ≡ o.place
   stood o = sym (yes _ _ (eq time time refl) refl)
 
   -- ---- the row, the marks and the place as they were
-  same-holds : (s : Stage) → Holds c M time v s → Holds c M time (seen_after v (Known time) (own_in v (Known time) out)) s
+  same-holds : (s : Stage) → Holds c M time v s → Holds c M time (seen_after v (Some time) (own_in v (Some time) out)) s
   same-holds s h = record {
     fit = record { row = h.fit.row; marks = h.fit.marks };
     timely = same-timely s h.timely;
-    standing = subst (λ (p : Place). Standing c M time p s) (sym (stood (own_in v (Known time) out))) h.standing;
+    standing = subst (λ (p : Place). Standing c M time p s) (sym (stood (own_in v (Some time) out))) h.standing;
   }
     where
-      same-timely : (s : Stage) → Timely v time s → Timely (seen_after v (Known time) (own_in v (Known time) out)) time s
+      same-timely : (s : Stage) → Timely v time s → Timely (seen_after v (Some time) (own_in v (Some time) out)) time s
       same-timely (gathering came) t = t
       same-timely (finished since) t = record {
         row = t.row;
@@ -73,7 +72,7 @@ module _ (c : Caption) (M time : ℕ) (v : View) (out : List ℕ) where
 
   -- the sample is finished
   ended-holds : Fit v → (p : Place) (o : List ℕ)
-      → Holds c M time (seen_after v (Known time) (finish (own_in v (Known time) out) time p o)) (finished 0)
+      → Holds c M time (seen_after v (Some time) (finish (own_in v (Some time) out) time p o)) (finished 0)
   unfolding row_after used_after
   ended-holds f p o = record {
     fit = record {
@@ -94,12 +93,12 @@ module _ (c : Caption) (M time : ℕ) (v : View) (out : List ℕ) where
 
   -- ---- an answer that changes nothing; and the sample handed out
   stayed : (s : Stage) → Holds c M time v s → (used : ℕ) (next : Time) (x : Outcome) → hands_out x ≡ false
-      → Serves c M time v out x s (stay (own_in v (Known time) out) used next x)
+      → Serves c M time v out x s (stay (own_in v (Some time) out) used next x)
   stayed s h used next x e = record { outcome = refl; left = no _ _ e refl; holds = same-holds s h }
 
   given : Fit v → length (sample c) ≤ sample_most → sample_most ≤ length out → (p : Place) (used : ℕ) (next : Time) (x : Outcome)
       → hands_out x ≡ true → Serves c M time v out x (finished 0)
-      (record { own = finish (own_in v (Known time) out) time p (sets out 0 (sample c)); answer = says used next x })
+      (record { own = finish (own_in v (Some time) out) time p (sets out 0 (sample c)); answer = says used next x })
   given f small room p used next x e =
       let z : 0 + length (sample c) ≡ length (sample c) = omega arith in
       let front : sets out 0 (sample c) ≡ sample c ++ drop (length (sample c)) out =
@@ -114,7 +113,7 @@ module _ (c : Caption) (M time : ℕ) (v : View) (out : List ℕ) where
   -- ---- after it is finished: refusal 6
   pub late-served : (since : ℕ) → Holds c M time v (finished since) → since < finished_most
       → (desk used : ℕ) (rest : List ℕ) (x : U.Unit) → is_text x ≡ true
-      → Serves c M time v out (O.Refused R.Late) (finished since) (taken (lone v) (own_in v (Known time) out) desk (Known time) used rest x)
+      → Serves c M time v out (O.Refused R.Late) (finished since) (taken (lone v) (own_in v (Some time) out) desk (Some time) used rest x)
   unfolding whole_taken joining
   late-served since h soon desk used rest End b = absurd (true≢false (sym b))
   late-served since h soon desk used rest (Skipped t) b = absurd (true≢false (sym b))
@@ -139,14 +138,14 @@ module _ (c : Caption) (M time : ℕ) (v : View) (out : List ℕ) where
 
       pub whole-served : (used : ℕ) (next : Time) (d : List ℕ) → d ≡ sample c
           → Serves c M time v out (due c M time (gathering came) 1) (brought c M (gathering came) 1)
-          (whole_taken (own_in v (Known time) out) time used next (whole_of c) d)
+          (whole_taken (own_in v (Some time) out) time used next (whole_of c) d)
       unfolding whole_taken
       whole-served used next d e =
           let n = h.standing.uncut l in
           let none-lacks : (0 <? awaited (count c M) (with came 1)) ≡ false = ge _ _ (omega (arith, one-lacks)) in
           let f = O.Whole (facts time c.U c.SIDX c.SDUR (length c.string) (length (sample c))) in
           let a : List ℕ → After =
-          λ y. record { own = finish (own_in v (Known time) out) time (v.at time) (sets out 0 y); answer = says used next f } in
+          λ y. record { own = finish (own_in v (Some time) out) time (v.at time) (sets out 0 y); answer = says used next f } in
           same-served (no _ _ (n.1 1) (no _ _ none-lacks (no _ _ l refl))) (no _ _ none-lacks refl)
           (no _ _ h.timely (no _ _ n.0 (no _ _ (ge _ _ writable.small) (ap a (sym e)))))
           (given h.fit writable.small space (v.at time) used next f refl)
@@ -163,7 +162,7 @@ module _ (c : Caption) (M time : ℕ) (v : View) (out : List ℕ) where
       Served = Serves c M time v out (due c M time (gathering came) k) (brought c M (gathering came) k)
 
       -- it came before
-      pub again-served : came k ≡ true → Served (joining (lone v) (own_in v (Known time) out) time used next q x d)
+      pub again-served : came k ≡ true → Served (joining (lone v) (own_in v (Some time) out) time used next q x d)
       unfolding joining
       again-served e =
           let w = with-again came k e in
@@ -185,7 +184,7 @@ module _ (c : Caption) (M time : ℕ) (v : View) (out : List ℕ) where
         lacks = missing-awaited c M room writable u l (with came k) p g' in-it
 
         -- some are missing still
-        kept-served : (0 <? awaited (count c M) (with came k)) ≡ true → Served (completed (own_in v (Known time) out) time used next p)
+        kept-served : (0 <? awaited (count c M) (with came k)) ≡ true → Served (completed (own_in v (Some time) out) time used next p)
         unfolding completed sample_of
         kept-served e =
             let m = awaited (count c M) (with came k) in
@@ -209,7 +208,7 @@ module _ (c : Caption) (M time : ℕ) (v : View) (out : List ℕ) where
             })
 
         -- it was the last
-        joined-served : (0 <? awaited (count c M) (with came k)) ≡ false → Served (completed (own_in v (Known time) out) time used next p)
+        joined-served : (0 <? awaited (count c M) (with came k)) ≡ false → Served (completed (own_in v (Some time) out) time used next p)
         unfolding completed
         joined-served e =
             let z : awaited (count c M) (with came k) ≡ 0 = omega (arith, ge-of _ _ e) in
@@ -222,8 +221,8 @@ module _ (c : Caption) (M time : ℕ) (v : View) (out : List ℕ) where
             (yes _ _ (sound-all c M room writable u l (with came k) p g' z) (rw (t, r, w.0, w.1, g'.sdur))))
             (given h.fit writable.small space closed used next f refl)
 
-        pub new-served : (asks_part (own_in v (Known time) out) time q x d ≡ true → Few v.opens)
-            → Served (joining (lone v) (own_in v (Known time) out) time used next q x d)
+        pub new-served : (asks_part (own_in v (Some time) out) time q x d ≡ true → Few v.opens)
+            → Served (joining (lone v) (own_in v (Some time) out) time used next q x d)
         unfolding joining asks_part six used_up conflicts
         new-served sparing =
             let r = no-repeat c M room writable u l came q g k x d b new in

@@ -1,6 +1,9 @@
 -- Worked runs, by computation. The parts of cases 7 and 8 of document 01 are what the writer gives of their sample; calls that bring them
 -- keep to all that 'handed out once' presumes. And how long a repeat is late: until sixteen more samples are finished. Assumes nothing.
-use Rattle.std.specs.Prelude.{ℕ, zero, suc, ◌≤◌, ◌<◌, ◌≡◌, refl, true, false, length, get_or, replicate}
+use Rattle.desk.specs.GivenUp.{Freed}
+use Rattle.memory.specs.Started.{Ready}
+use Rattle.writer.specs.Written.{packed}
+use Rattle.std.specs.Prelude.{ℕ, zero, suc, ◌≤◌, ◌<◌, ◌≡◌, refl, true, false, length, get_or, replicate, Err}
 use Rattle.std.proofs.Common.{arith, sym, ap, subst, true≢false, inl, inr}
 use mathlib.Core.List.{List, [], ◌++◌, flatten}
 use Rattle.std.specs.Int.Count.{ones}
@@ -17,16 +20,12 @@ use Rattle.unit.specs.Head.{part_head}
 use Rattle.writer.specs.Cut.{cuts, cuts_within, modified, pieces}
 use Rattle.writer.specs.Write.{Caption, long, count, part_unit, payload_unit, payload_data, payload, unsized, ill_formed}
 use Rattle.writer.specs.Write.{unwritable, uncut, written}
-use Rattle.writer.specs.declared.Written.TheVariants.{Payload}
 use Rattle.sample.specs.Place.{bare, outside, has, agrees, stands, repeats, oversize, told_with, telling, laid, kept, missing, pieces_in}
 use Rattle.sample.specs.Place.{pieces_of}
 use Rattle.finished.specs.Times.{among, moved_row, marked_row, marked_used}
-use Rattle.desk.specs.declared.GivenUp.TheVariants.{Freed}
-use Rattle.desk.specs.declared.GivenUp.TheVariants as G
 use Rattle.desk.specs.Desk.{later, later_part, whole_taken, sample_of, conflicts, six, used_up, completed, joining, received, given_up}
 use Rattle.desk.specs.Effects.{asks_part}
 use Rattle.octets.specs.Same.{same}
-use Rattle.memory.specs.declared.Started.TheVariants.{Ready}
 use Rattle.memory.specs.Relay.{Tables, set_up, ordered, yielded}
 use Rattle.good.specs.Fresh.{fresh_view}
 use Rattle.peace.specs.Run.{Call, released, shown, run, to, only}
@@ -38,18 +37,18 @@ use Rattle.once.proofs.Once.{handed-out-once}
 use Rattle.once.specs.Worked.{first, second, all, letters, blink, blinked, blank, hi, plain, abc, calls, whole_calls, three_calls, Meets, run_with, hears}
 
 two-payloads : (count hi 19 ≡ 2) × (payload hi 19 1 ≡ first) × (payload hi 19 2 ≡ second)
-    × ((written hi 19 1 (replicate 19 0)).answer ≡ Payload 12 2)
+    × ((written hi 19 1 (replicate 19 0)).answer ≡ packed 12 2)
 unfolding count payload_unit payload_data part_unit part_head written uncut unwritable ill_formed unsized well_formed well_within long pieces
     modified cuts cuts_within reach reach_within character chart within follows charted ◌⇒◌⁏◌ ◌<?◌ ◌=?◌
 two-payloads = (refl, refl, refl, refl)
 
-one-payload : (count plain 14 ≡ 1) × (payload plain 14 1 ≡ all) × ((written plain 14 1 (replicate 14 0)).answer ≡ Payload 11 1)
+one-payload : (count plain 14 ≡ 1) × (payload plain 14 1 ≡ all) × ((written plain 14 1 (replicate 14 0)).answer ≡ packed 11 1)
 unfolding count payload_unit payload_data part_unit part_head written uncut unwritable ill_formed unsized well_formed well_within long pieces
     modified cuts cuts_within reach reach_within character chart within follows charted ◌⇒◌⁏◌ ◌<?◌ ◌=?◌
 one-payload = (refl, refl, refl)
 
 three-payloads : (count abc 17 ≡ 3) × (payload abc 17 1 ≡ letters) × (payload abc 17 2 ≡ blink) × (payload abc 17 3 ≡ blinked)
-    × ((written abc 17 1 (replicate 17 0)).answer ≡ Payload 13 3)
+    × ((written abc 17 1 (replicate 17 0)).answer ≡ packed 13 3)
 unfolding count payload_unit payload_data part_unit part_head written uncut unwritable ill_formed unsized well_formed well_within long pieces
     modified cuts cuts_within reach reach_within character chart within follows charted ◌⇒◌⁏◌ ◌<?◌ ◌=?◌
 three-payloads = (refl, refl, refl, refl, refl)
@@ -65,7 +64,7 @@ room : sample_most ≤ length blank
 room = omega (arith, length-replicate {A = ℕ} sample_most 0)
 
 -- a refused give-up frees nothing
-refusing : released (G.Refused R.NotOpen) ≡ released Freed → ⊥
+refusing : released (Err R.NotOpen) ≡ released Freed → ⊥
 refusing e = let z : ◌≡◌ {A = ℕ} 0 1 = cc in omega arith
 
 idle : {A : Type 0} → false ≡ true → A

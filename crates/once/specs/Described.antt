@@ -1,5 +1,6 @@
 -- What the writer writes for a description is shown as it: in good tables a desk that receives it, whatever follows it in the payload, and
 -- is not refused, looks it up byte for byte. Assumes nothing.
+use Rattle.writer.specs.Written.{packed}
 use Rattle.std.specs.Prelude.{ℕ, ◌*◌, ◌≤◌, ◌<◌, ◌≡◌, false, ◌⊎◌, List, ◌++◌, length, take}
 use Rattle.std.proofs.Common.{arith, sym, ◌∙◌, ⊎_elim, get_or-set_same}
 use Rattle.std.proofs.Math.Path.{ap, subst}
@@ -7,13 +8,12 @@ use Rattle.laws.specs.Rows.{each}
 use Rattle.laws.specs.Region.{length-cell}
 use Rattle.paper.specs.Limits.{window, record_size, head_size, marks_each, store_size}
 use Rattle.paper.specs.Words.{kind_of}
-use Rattle.paper.specs.declared.Time.{Time}
+use Rattle.paper.specs.Time.{Time}
 use Rattle.paper.specs.declared.Outcome.{Outcome}
 use Rattle.paper.specs.declared.Outcome.TheVariants as O
 use Rattle.unit.specs.declared.Description as D
 use Rattle.unit.specs.declared.Reading.{Reading}
 use Rattle.writer.specs.Write.{described}
-use Rattle.writer.specs.declared.Written.TheVariants.{Payload}
 use Rattle.again.specs.Described.{DescribedAgain, described-again}
 use Rattle.style.specs.Store.{noted}
 use Rattle.style.specs.Shown as S
@@ -68,7 +68,7 @@ NotedGot (released a) = ⊥
 NotedGot (shown x) = ⊥
 
 pub shown-as-written : (n desk : ℕ) → desk < n → (s : Tables) → Good n s → (SIDX : ℕ) (d : List ℕ) (M k : ℕ) (lent : List ℕ) (len N : ℕ)
-    → (described SIDX d M k lent).answer ≡ Payload len N → (t : Time) (more out book : List ℕ)
+    → (described SIDX d M k lent).answer ≡ packed len N → (t : Time) (more out book : List ℕ)
     → let c = receive desk t (take len (described SIDX d M k lent).out ++ more) out in
     NotedGot (got s c) → got (next s c) (lookup desk SIDX book) ≡ shown d
 shown-as-written n desk l s g SIDX d M k lent len N e t more out book q =

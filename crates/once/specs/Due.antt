@@ -1,6 +1,7 @@
 -- 'Handed out once', in words: how far a sample has come, what is due to each call that counts, and the statement. Definitions only.
 -- Assumes nothing.
-use Rattle.std.specs.Prelude.{ℕ, suc, ◌+◌, ◌-◌, ◌≤◌, ◌<◌, ◌≡◌, Bool, true, false, List, [], ◌∷◌, ◌++◌, length, drop}
+use Rattle.writer.specs.Written.{packed}
+use Rattle.std.specs.Prelude.{ℕ, suc, ◌+◌, ◌-◌, ◌≤◌, ◌<◌, ◌≡◌, Bool, true, false, List, [], ◌∷◌, ◌++◌, length, drop, Ok, Err}
 use Rattle.laws.specs.Rows.{◌⇒◌⁏◌, ◌or◌, ◌and◌, ◌<?◌, ◌=?◌}
 use Rattle.laws.specs.Sums.{sum}
 use Rattle.laws.specs.Table.{bit}
@@ -11,10 +12,7 @@ use Rattle.paper.specs.declared.Outcome.{Outcome}
 use Rattle.paper.specs.declared.Outcome.TheVariants as O
 use Rattle.unit.specs.Layout.{read_of}
 use Rattle.writer.specs.Write.{Caption, sample, long, count, written}
-use Rattle.writer.specs.declared.Written.TheVariants.{Payload}
-use Rattle.desk.specs.declared.GivenUp.{GivenUp}
-use Rattle.desk.specs.declared.GivenUp.TheVariants.{Freed}
-use Rattle.desk.specs.declared.GivenUp.TheVariants as G
+use Rattle.desk.specs.GivenUp.{GivenUp}
 use Rattle.desk.specs.Desk.{facts}
 use Rattle.memory.specs.Table.{is_time}
 use Rattle.peace.specs.Run.{Call, receive, give-up, lookup, Got, answered, released, shown}
@@ -94,8 +92,8 @@ finishing (O.Skipped t) = false
 finishing (O.Refused r) = number_of r =? 10
 
 abbrev pub freeing : GivenUp → Bool
-freeing Freed = true
-freeing (G.Refused r) = false
+freeing (Ok u) = true
+freeing (Err r) = false
 
 abbrev pub finishes : Got → Bool
 finishes (answered a out) = finishing a.outcome
@@ -147,7 +145,7 @@ pub record Writes (c : Caption) (M N : ℕ) : Type 0 where
   pub number : ℕ
   pub out : List ℕ
   pub len : ℕ
-  pub answer : (written c M number out).answer ≡ Payload len N
+  pub answer : (written c M number out).answer ≡ packed len N
 
 -- what is presumed of a desk's calls and of what they got
 pub record Coming (c : Caption) (M N time : ℕ) (xs : List Call) (gs : List Got) : Type 0 where

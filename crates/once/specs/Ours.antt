@@ -1,14 +1,13 @@
 -- 'Handed out once', in words: which calls of a desk count for the sample of a time, and what is presumed of the desk's calls.
 -- Definitions only. Assumes nothing.
-use Rattle.std.specs.Prelude.{ℕ, ◌≤◌, ◌≡◌, Bool, true, false, ◌⊎◌, List, [], ◌∷◌, ◌++◌, length}
+use Rattle.desk.specs.GivenUp.{Freed}
+use Rattle.std.specs.Prelude.{ℕ, ◌≤◌, ◌≡◌, Bool, true, false, ◌⊎◌, List, [], ◌∷◌, ◌++◌, length, Some}
 use Rattle.laws.specs.Rows.{◌⇒◌⁏◌, ◌<?◌}
 use Rattle.paper.specs.Limits.{sample_most}
-use Rattle.paper.specs.declared.Time.TheVariants.{Known}
 use Rattle.unit.specs.declared.Unit as U
 use Rattle.unit.specs.declared.Unit.TheVariants.{End, Skipped, Refused, Whole, Part, Description}
 use Rattle.unit.specs.Layout.{read_of}
 use Rattle.writer.specs.Write.{Caption, count, payload}
-use Rattle.desk.specs.declared.GivenUp.TheVariants.{Freed}
 use Rattle.desk.specs.Desk.{is_text}
 use Rattle.memory.specs.Table.{is_time}
 use Rattle.peace.specs.Run.{Call, receive, give-up, lookup, Got, released}
@@ -69,7 +68,7 @@ EachGot P (c ∷ cs) (g ∷ gs) = P c g × EachGot P cs gs
 
 -- payload number k comes at the time with an output of at least 1,024
 abbrev pub Brings : Caption → (M time k : ℕ) → Call → Type 0
-Brings c M time k (receive desk at rest out) = (at ≡ Known time) × (sample_most ≤ length out) × Begins c M k rest
+Brings c M time k (receive desk at rest out) = (at ≡ Some time) × (sample_most ≤ length out) × Begins c M k rest
 Brings c M time k (give-up desk at) = ⊥
 Brings c M time k (lookup desk index book) = ⊥
 

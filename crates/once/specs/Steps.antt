@@ -1,9 +1,8 @@
 -- One call that counts: it gets what is due to it, and the desk has afterwards what the next stage says. Assumes nothing.
 use Prim.Native.Nat.{ℕ, ◌<◌}
-use Rattle.std.specs.Prelude.{◌≡◌, length}
+use Rattle.std.specs.Prelude.{◌≡◌, length, Some}
 use Rattle.std.proofs.Math.Bool.{Bool, true, false}
 use mathlib.Core.List.{List}
-use Rattle.paper.specs.declared.Time.TheVariants.{Known}
 use Rattle.paper.specs.declared.Outcome.{Outcome}
 use Rattle.unit.specs.declared.Whole as W
 use Rattle.unit.specs.declared.Part as P
@@ -39,4 +38,4 @@ pub record Holds (c : Caption) (M time : ℕ) (v : View) (s : Stage) : Type 0 wh
 pub record Serves (c : Caption) (M time : ℕ) (v : View) (out : List ℕ) (x : Outcome) (s : Stage) (a : After) : Type 0 where
   pub outcome : a.answer.outcome ≡ x
   pub left : a.own.out ≡ output c x out
-  pub holds : Holds c M time (seen_after v (Known time) a.own) s
+  pub holds : Holds c M time (seen_after v (Some time) a.own) s

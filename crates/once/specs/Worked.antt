@@ -1,9 +1,8 @@
 -- Worked runs, by computation. The parts of cases 7 and 8 of document 01 are what the writer gives of their sample; calls that bring them
 -- keep to all that 'handed out once' presumes. And how long a repeat is late: until sixteen more samples are finished. Assumes nothing.
-use Rattle.std.specs.Prelude.{ℕ, zero, suc, ◌+◌, replicate}
+use Rattle.std.specs.Prelude.{ℕ, zero, suc, ◌+◌, replicate, Some}
 use mathlib.Core.List.{List, [], ◌∷◌, ◌++◌}
 use Rattle.paper.specs.Limits.{sample_most}
-use Rattle.paper.specs.declared.Time.TheVariants.{Known}
 use Rattle.paper.specs.declared.Outcome.{Outcome}
 use Rattle.writer.specs.Write.{Caption, caption}
 use Rattle.desk.specs.Desk.{says}
@@ -42,7 +41,7 @@ abbrev pub blank : List ℕ
 blank = replicate sample_most 0
 
 abbrev pub gets : (desk : ℕ) → (rest : List ℕ) → Call
-gets desk rest = receive desk (Known 5) rest blank
+gets desk rest = receive desk (Some 5) rest blank
 
 -- ---- the captions, and that these are the payloads that the writer gives of them
 abbrev pub blnk : List ℕ
@@ -61,7 +60,7 @@ abc = caption 0 128 100 (0x61 ∷ 0x62 ∷ 0x63 ∷ []) blnk
 -- with more in its rest, a give-up that is refused, and the first again
 abbrev pub calls : (desk : ℕ) → List Call
 calls desk =
-    give-up desk 5 ∷ gets desk second ∷ receive desk (Known 5) first [] ∷ gets desk second ∷ gets desk (first ++ second) ∷ give-up desk 5
+    give-up desk 5 ∷ gets desk second ∷ receive desk (Some 5) first [] ∷ gets desk second ∷ gets desk (first ++ second) ∷ give-up desk 5
     ∷ gets desk first ∷ []
 
 -- a whole sample between two give-ups that are refused, and it again
@@ -81,10 +80,10 @@ pub record Meets (c : Caption) (M : ℕ) (xs : List Call) : Type 0 where
 -- ---- the sharp edge: n other samples finish, and the first part comes again
 abbrev pub others : (n : ℕ) → List Call
 others zero = gets 0 first ∷ []
-others (suc n) = receive 0 (Known (100 + n)) empty blank ∷ others n
+others (suc n) = receive 0 (Some (100 + n)) empty blank ∷ others n
 
 abbrev pub run_with : (n : ℕ) → List Call
 run_with n = gets 0 first ∷ gets 0 second ∷ others n
 
 abbrev pub hears : Outcome → Got
-hears x = answered (says 12 (Known 5) x) blank
+hears x = answered (says 12 (Some 5) x) blank

@@ -2,7 +2,7 @@
 use Rattle.std.specs.Prelude.{ℕ, ◌≡◌, refl, false, List}
 use Rattle.std.proofs.Common.{sym, ap, ◌∙◌, true≢false}
 use Rattle.laws.specs.Rows.{yes, no}
-use Rattle.paper.specs.declared.Time.{Time}
+use Rattle.paper.specs.Time.{Time}
 use Rattle.paper.specs.declared.Outcome.TheVariants as O
 use Rattle.unit.specs.declared.Part as P
 use Rattle.unit.specs.declared.Unit.{Unit}

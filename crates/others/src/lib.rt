@@ -25,8 +25,8 @@ fn whole_at(
         ≡ whole_at (own p row.old marks.old store out.old) t used w d.now }
 {
     match t {
-        Time::Known(time) => singles::take_whole(is_open, row, marks, time, used, w, d, out),
-        Time::Unknown => { asks::says(used, Time::Unknown, Outcome::Refused(Refusal::Untimed)) }
+        Some(time) => singles::take_whole(is_open, row, marks, time, used, w, d, out),
+        None => { asks::says(used, None, Outcome::Refused(Refusal::Untimed)) }
     }
 }
 

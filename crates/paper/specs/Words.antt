@@ -1,11 +1,10 @@
 -- What the cases of the paper's enums stand for: each refusal's number, the running time, and each outcome's place in the paper's list
 -- with the values that the paper gives with it. Assumes nothing.
-use Rattle.std.specs.Prelude.{ℕ, List, [], ◌∷◌}
+use Rattle.std.specs.Prelude.{ℕ, List, [], ◌∷◌, Some, None}
 use Rattle.paper.specs.declared.Refusal.{Refusal}
 use Rattle.paper.specs.declared.Refusal.TheVariants.{Desk, Output, Frame, Fields, Size, Late, Conflict, Six, Common, Spoiled}
 use Rattle.paper.specs.declared.Refusal.TheVariants.{NotOpen, Writer, Parts, Payload, Box, Book, IllFormed, Untimed}
-use Rattle.paper.specs.declared.Time.{Time}
-use Rattle.paper.specs.declared.Time.TheVariants.{Known, Unknown}
+use Rattle.paper.specs.Time.{Time}
 use Rattle.paper.specs.declared.Outcome.{Outcome}
 use Rattle.paper.specs.declared.Outcome.TheVariants.{End, Whole, Joined, Kept, Repeat, Described, Skipped, Refused}
 use Rattle.paper.specs.declared.Facts.{Facts}
@@ -46,8 +45,8 @@ number_of Untimed = 18
 
 -- ---- the running time is known, with its number, or unknown: what is so at a known one, and what at an unknown one
 abbrev pub by_time : {A : Type 0} → Time → (ℕ → A) → A → A
-by_time (Known time) known unknown = known time
-by_time Unknown known unknown = unknown
+by_time (Some time) known unknown = known time
+by_time None known unknown = unknown
 
 -- the outcomes in the paper's order
 abbrev pub kind_of : Outcome → ℕ

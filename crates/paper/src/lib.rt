@@ -30,11 +30,7 @@ pub enum Refusal {
 }
 
 // The running time of a unit. Behind a line whose duration is not known yet it is unknown; every number is a time.
-#[derive(Clone, Copy)]
-pub enum Time {
-    Known(u32),
-    Unknown,
-}
+pub type Time = Option<u32>;
 
 // The name of a sample: its desk and its time.
 #[derive(Clone, Copy)]

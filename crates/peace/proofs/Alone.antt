@@ -7,7 +7,7 @@ use Rattle.std.proofs.Math.Bool.{true, false}
 use mathlib.Core.List.{List, [], ◌∷◌}
 use Rattle.laws.specs.Rows.{◌⇒◌⁏◌, ◌or◌, ◌=?◌, no, below, eq_of, ne_of}
 use Rattle.laws.specs.Table.{count}
-use Rattle.paper.specs.declared.Time.{Time}
+use Rattle.paper.specs.Time.{Time}
 use Rattle.desk.specs.declared.Shares.{Shares}
 use Rattle.desk.specs.Desk.{Own, After}
 use Rattle.desk.proofs.Effects.{unheard}

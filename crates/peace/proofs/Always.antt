@@ -1,7 +1,7 @@
 -- What set-up makes and each call keeps holds after any list of calls. Assumes nothing.
+use Rattle.memory.specs.Started.{Ready}
 use Rattle.std.specs.Prelude.{ℕ, ◌≡◌, refl, List, [], ◌∷◌, ◌++◌}
 use Rattle.std.proofs.Common.{ap}
-use Rattle.memory.specs.declared.Started.TheVariants.{Ready}
 use Rattle.memory.specs.Relay.{Tables, set_up}
 use Rattle.good.specs.Good.{Good, set-up-good}
 use Rattle.peace.specs.Run.{Call, Got, caller, got, next, run}

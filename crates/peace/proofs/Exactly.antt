@@ -1,6 +1,6 @@
 -- 8 and 9, exactly: of all calls they are given to those that reach the test of the shares, 8 with six of the desk's samples open, 9 with
 -- two to five open and the common use 2n; by the numbers that are stored, and in good tables by what a walk finds. Assumes nothing.
-use Rattle.std.specs.Prelude.{ℕ, ◌<◌, ◌≡◌, Bool, ◌⊎◌, ◌≢◌, List}
+use Rattle.std.specs.Prelude.{ℕ, ◌<◌, ◌≡◌, Bool, ◌⊎◌, ◌≢◌, List, Some, None}
 use Rattle.std.proofs.Common.{arith, subst, ◌∙◌, true≢false, inl, inr, ⊎_elim}
 use Rattle.std.proofs.Math.Path.{refl, sym, ap}
 use Rattle.std.proofs.Math.Bool.{true, false}
@@ -12,8 +12,7 @@ use Rattle.paper.specs.declared.Refusal.{Refusal}
 use Rattle.paper.specs.declared.Refusal.TheVariants as R
 use Rattle.paper.specs.declared.Outcome.{Outcome}
 use Rattle.paper.specs.declared.Outcome.TheVariants as O
-use Rattle.paper.specs.declared.Time.{Time}
-use Rattle.paper.specs.declared.Time.TheVariants.{Known, Unknown}
+use Rattle.paper.specs.Time.{Time}
 use Rattle.unit.specs.declared.Part as P
 use Rattle.unit.specs.declared.Unit.{Unit}
 use Rattle.unit.specs.declared.Unit.TheVariants.{End, Skipped, Refused, Whole, Part, Description}
@@ -107,8 +106,8 @@ module _ (s : Tables) (desk : ℕ) (t : Time) (rest out : List ℕ) where
       go (Skipped y) u e = absurd (true≢false (sym e))
       go (Refused w) u e = absurd (true≢false (sym e))
       go (Whole w) u e = absurd (true≢false (sym e))
-      go (Part x) (Known time) e = ap (λ (x : After). x.answer.outcome) (part time (read_of rest).used _ _ x (data_of rest (Part x)) e)
-      go (Part x) Unknown e = absurd (true≢false (sym e))
+      go (Part x) (Some time) e = ap (λ (x : After). x.answer.outcome) (part time (read_of rest).used _ _ x (data_of rest (Part x)) e)
+      go (Part x) None e = absurd (true≢false (sym e))
       go (Description w) u e = absurd (true≢false (sym e))
 
   neither : (Asking → Passed shares) → Serves outcome

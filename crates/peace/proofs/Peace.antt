@@ -1,8 +1,8 @@
 -- Peace: what a desk that keeps to two open samples gets is the same whatever all others do. Assumes nothing.
+use Rattle.memory.specs.Started.{Ready}
 use Rattle.std.specs.Prelude.{ℕ, ◌<◌, ◌≡◌, refl, Bool, true, false, List, [], ◌∷◌}
 use Rattle.std.proofs.Common.{sym, ap₂, subst, ◌∙◌}
 use Rattle.laws.specs.Rows.{◌⇒◌⁏◌, ◌=?◌}
-use Rattle.memory.specs.declared.Started.TheVariants.{Ready}
 use Rattle.memory.specs.Relay.{Tables, set_up}
 use Rattle.good.specs.Good.{Good, set-up-good}
 use Rattle.good.specs.View.{View, view}

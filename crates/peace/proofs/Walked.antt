@@ -1,8 +1,8 @@
 -- Runs of the relay that walks, as it was before the numbers were stored: from set-up on, every call of every run gets what it gets there.
 -- And after any list of calls the stored numbers are what a walk finds. Assumes nothing.
+use Rattle.memory.specs.Started.{Ready}
 use Rattle.std.specs.Prelude.{ℕ, ◌≡◌, refl, List, [], ◌∷◌}
 use Rattle.std.proofs.Common.{ap, ap₂}
-use Rattle.memory.specs.declared.Started.TheVariants.{Ready}
 use Rattle.memory.specs.Relay.{Tables, places_of, set_up, sender}
 use Rattle.good.specs.Counts.{Stored}
 use Rattle.good.specs.Good.{name, Good, set-up-good}

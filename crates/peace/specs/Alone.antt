@@ -1,9 +1,8 @@
 -- The desk alone: what it gets is settled by its own view and its own calls. In good tables a modest desk gets, among all others, what it
 -- gets alone. Assumes nothing.
-use Rattle.std.specs.Prelude.{◌≡◌, Bool}
+use Rattle.std.specs.Prelude.{◌≡◌, Bool, Some}
 use Rattle.std.proofs.Math.Bool.{true, false}
 use mathlib.Core.List.{List, [], ◌∷◌}
-use Rattle.paper.specs.declared.Time.TheVariants.{Known}
 use Rattle.style.specs.Shown as S
 use Rattle.desk.specs.declared.Shares.{Shares}
 use Rattle.desk.specs.Desk.{newest_of}
@@ -25,7 +24,7 @@ own_got v (lookup desk index book) = shown (S.shown book v.store (newest_of v.ma
 -- its view after the call
 abbrev pub own_view : View → Call → View
 own_view v (receive desk t rest out) = seen_after v t (receives (lone v) v desk t rest out).own
-own_view v (give-up desk time) = seen_after v (Known time) (gives_up v time).own
+own_view v (give-up desk time) = seen_after v (Some time) (gives_up v time).own
 own_view v (lookup desk index book) = v
 
 -- the call reaches the test of the shares

@@ -5,9 +5,9 @@ use Rattle.laws.specs.Rows.{◌⇒◌⁏◌, ◌or◌, ◌<?◌, ◌=?◌}
 use Rattle.laws.specs.Table.{count}
 use Rattle.paper.specs.Limits.{sample_most, own_places}
 use Rattle.paper.specs.declared.Answer.{Answer}
-use Rattle.paper.specs.declared.Time.{Time}
+use Rattle.paper.specs.Time.{Time}
 use Rattle.unit.specs.Layout.{read_of}
-use Rattle.desk.specs.declared.GivenUp.{GivenUp}
+use Rattle.desk.specs.GivenUp.{GivenUp}
 use Rattle.desk.specs.Desk.{Own}
 use Rattle.desk.specs.Effects.{asks}
 use Rattle.memory.specs.Table.{mine}

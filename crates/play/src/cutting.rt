@@ -1,8 +1,9 @@
 // The writer: payloads of samples of both encodings around each edge, and descriptions. Strings and modifiers repeat thirty bytes.
 use crate::{print, script};
+use paper::Refusal;
 use std::io;
 use std::io::Print;
-use writer::Written;
+use writer::Payload;
 
 const LETTERS: [u8; 30] = *b"abcdefghijklmnopqrstuvwxyzabcd";
 // one, two, three and four bytes a character
@@ -24,10 +25,10 @@ fn fill(s: &mut [u8], thirty: &[u8; 30]) {
 }
 
 // The payload's length, how many there are, and its bytes; or the refusal.
-fn tell(rt: &impl Print, w: Written, out: &[u8]) -> io::Result<()> {
+fn tell(rt: &impl Print, w: Result<Payload, Refusal>, out: &[u8]) -> io::Result<()> {
     match w {
-        Written::Refused(r) => print::refused(rt, r),
-        Written::Payload { len, count } => {
+        Err(r) => print::refused(rt, r),
+        Ok(Payload { len, count }) => {
             print::numbers(rt, &[len, count])?;
             print::laid(rt, out, len)
         }

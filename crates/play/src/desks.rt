@@ -1,12 +1,10 @@
 // The calls of the relay, and what the halls see of them.
 use crate::{print, script};
-use desk::GivenUp;
 use hall::Hall;
 use paper::{Facts, Name, Outcome, Sender, Time};
 use std::io;
 use std::io::Print;
-use style::Checked;
-use writer::Written;
+use writer::Payload;
 
 // The longest payload of the script, and its longest style book.
 const PAYLOAD_MOST: usize = 1040;
@@ -36,8 +34,8 @@ fn hand_out(rt: &impl Print, h: Hall, outcome: Outcome) -> io::Result<Hall> {
 // A running time; `?` where it is unknown.
 fn print_time(rt: &impl Print, t: Time) -> io::Result<()> {
     match t {
-        Time::Known(time) => print::number(rt, time as usize),
-        Time::Unknown => print::text(rt, b" ?"),
+        Some(time) => print::number(rt, time as usize),
+        None => print::text(rt, b" ?"),
     }
 }
 
@@ -74,14 +72,14 @@ fn send(rt: &impl Print, h: Hall, line: &[u8], text: &[u8]) -> io::Result<Hall> 
     let m = script::number(line, 3);
     let k = script::number(line, 4);
     match writes::write_sample(0, 128, 50, text, &[], m, k, &mut out) {
-        Written::Payload { len, count: _ } => receive(
+        Ok(Payload { len, .. }) => receive(
             rt,
             h,
             script::number(line, 1),
             script::running(line, 2),
             octets::cut(&out, 0, len),
         ),
-        Written::Refused(_) => Ok(h),
+        Err(_) => Ok(h),
     }
 }
 
@@ -99,8 +97,8 @@ fn give_up(rt: &impl Print, h: Hall, line: &[u8]) -> io::Result<Hall> {
     let r = hall::give_up(h, Name { desk, time });
     let answer = r.answer;
     match answer {
-        GivenUp::Freed => print::number(rt, 0)?,
-        GivenUp::Refused(why) => print::refused(rt, why)?,
+        Ok(()) => print::number(rt, 0)?,
+        Err(why) => print::refused(rt, why)?,
     }
     Ok(r.hall)
 }
@@ -124,10 +122,10 @@ fn check(rt: &impl Print, line: &[u8]) -> io::Result<()> {
     let mut book = [0u8; BOOK_MOST];
     let n = script::bytes(line, 1, &mut book);
     match book::check(octets::cut(&book, 0, n)) {
-        Checked::Good(many) => print::number(rt, many),
-        Checked::Refused(r, i) => {
-            print::refused(rt, r)?;
-            print::number(rt, i)
+        Ok(many) => print::number(rt, many),
+        Err(bad) => {
+            print::refused(rt, bad.why)?;
+            print::number(rt, bad.at)
         }
     }
 }

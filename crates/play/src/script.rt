@@ -133,9 +133,9 @@ pub(crate) fn time(s: &[u8], k: usize) -> u32 {
 // Word k as a running time; `?` is an unknown one.
 pub(crate) fn running(s: &[u8], k: usize) -> Time {
     if octets::same(word(s, k), b"?") {
-        return Time::Unknown;
+        return None;
     }
-    Time::Known(time(s, k))
+    Some(time(s, k))
 }
 
 fn hex_digit(c: usize) -> usize

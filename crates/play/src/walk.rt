@@ -1,16 +1,16 @@
 // The box walk over good and broken modifiers.
 use crate::{print, script};
-use boxes::Found;
+use paper::Refusal;
 use std::io;
 use std::io::Print;
 
 const MODIFIERS_MOST: usize = 20;
 
-fn found(rt: &impl Print, f: Found) -> io::Result<()> {
+fn found(rt: &impl Print, f: Result<Option<usize>, Refusal>) -> io::Result<()> {
     match f {
-        Found::End => print::number(rt, 0),
-        Found::Box(t) => print::numbers(rt, &[1, t]),
-        Found::Refused(r) => print::refused(rt, r),
+        Ok(None) => print::number(rt, 0),
+        Ok(Some(t)) => print::numbers(rt, &[1, t]),
+        Err(r) => print::refused(rt, r),
     }
 }
 

@@ -1,7 +1,9 @@
 -- Worked runs, by computation. In lent memory exactly as long as two desks need: a desk is not disturbed by one that takes all it can get;
 -- and modesty is needed, by case 10 of document 01. In any lent memory: the same quiet desk among seven others, whatever they do. In
 -- memory that holds no relay: every call is refused. Assumes nothing.
-use Rattle.std.specs.Prelude.{ℕ, ◌≡◌, refl, true, false, replicate}
+use Rattle.desk.specs.GivenUp.{Freed}
+use Rattle.memory.specs.Started.{Ready}
+use Rattle.std.specs.Prelude.{ℕ, ◌≡◌, refl, true, false, replicate, Some, Err}
 use Rattle.std.proofs.Common.{arith, sym, ap, ap₂, subst, ◌∙◌, true≢false}
 use mathlib.Core.List.{List, [], ◌∷◌, ◌++◌, map, flatten}
 use Rattle.std.specs.Int.Count.{ones}
@@ -9,7 +11,6 @@ use Rattle.std.proofs.lemmas.List.Edits.{sets}
 use Rattle.laws.specs.Rows.{◌⇒◌⁏◌, ◌<?◌, ◌=?◌}
 use Rattle.paper.specs.Limits.{sample_most}
 use Rattle.paper.specs.declared.Refusal.TheVariants as R
-use Rattle.paper.specs.declared.Time.TheVariants.{Known}
 use Rattle.paper.specs.declared.Outcome.{Outcome}
 use Rattle.paper.specs.declared.Outcome.TheVariants as O
 use Rattle.text.specs.Chart.{chart, within, follows, charted}
@@ -19,11 +20,8 @@ use Rattle.joining.specs.Joining as J
 use Rattle.sample.specs.Place.{bare, outside, has, agrees, stands, repeats, oversize, told_with, telling, laid, kept, missing, pieces_in}
 use Rattle.sample.specs.Place.{pieces_of}
 use Rattle.finished.specs.Times.{among, marked_row, marked_used}
-use Rattle.desk.specs.declared.GivenUp.TheVariants.{Freed}
-use Rattle.desk.specs.declared.GivenUp.TheVariants as G
 use Rattle.desk.specs.Desk.{says, facts, later, later_part, sample_of, conflicts, six, used_up, completed, joining, received, given_up}
 use Rattle.desk.specs.Effects.{asks_part}
-use Rattle.memory.specs.declared.Started.TheVariants.{Ready}
 use Rattle.memory.specs.Relay.{Tables, desks_of, stands_at, stepped, common_stepped, improper, stranger, short, own_marks, set_up}
 use Rattle.memory.specs.Relay.{ordered, Done, received_among, yielded, Released, given_up_among, sender}
 use Rattle.good.specs.Good.{name}
@@ -49,19 +47,19 @@ blank = replicate sample_most 0
 
 -- a desk opens its sample of a time, and what it is told
 abbrev opens : (desk time : ℕ) → Call
-opens desk time = receive desk (Known time) first blank
+opens desk time = receive desk (Some time) first blank
 
 abbrev hears : (time : ℕ) → Outcome → Got
-hears time x = answered (says 12 (Known time) x) blank
+hears time x = answered (says 12 (Some time) x) blank
 
 -- ---- a quiet desk opens two, completes one and gives the other up
 abbrev quiet : (desk : ℕ) → List Call
-quiet desk = opens desk 1 ∷ opens desk 2 ∷ receive desk (Known 1) second blank ∷ give-up desk 2 ∷ []
+quiet desk = opens desk 1 ∷ opens desk 2 ∷ receive desk (Some 1) second blank ∷ give-up desk 2 ∷ []
 
 abbrev quiet_gets : List Got
 quiet_gets =
     hears 1 (O.Kept 1) ∷ hears 2 (O.Kept 1)
-    ∷ answered (says 19 (Known 101) (O.Joined (facts 1 0 128 100 2 14))) (sets blank 0 sample) ∷ released Freed ∷ []
+    ∷ answered (says 19 (Some 101) (O.Joined (facts 1 0 128 100 2 14))) (sets blank 0 sample) ∷ released Freed ∷ []
 
 -- a greedy one opens all that it can: six, and its seventh gets 8
 abbrev greedy : List Call
@@ -74,7 +72,7 @@ greedy_gets =
 
 -- both at one relay, where the greedy one gives one up and takes another
 abbrev both : List Call
-both = greedy ++ (opens 1 1 ∷ opens 1 2 ∷ give-up 0 1 ∷ opens 0 8 ∷ receive 1 (Known 1) second blank ∷ opens 0 9 ∷ give-up 1 2 ∷ [])
+both = greedy ++ (opens 1 1 ∷ opens 1 2 ∷ give-up 0 1 ∷ opens 0 8 ∷ receive 1 (Some 1) second blank ∷ opens 0 9 ∷ give-up 1 2 ∷ [])
 
 -- a desk that is not modest opens a third
 abbrev three : List Call
@@ -120,7 +118,7 @@ among-seven s e xs q = as-fresh 8 7 (omega arith) s e xs (quiet 7) q computed.1.
 -- ---- in memory whose head does not hold 1 to 8: whatever is called, each call is refused by 1, and a lookup shows nothing
 abbrev denied : Call → Got
 denied (receive desk t rest out) = answered (says 0 t (O.Refused R.Desk)) out
-denied (give-up desk time) = released (G.Refused R.Desk)
+denied (give-up desk time) = released (Err R.Desk)
 denied (lookup desk index book) = shown []
 
 module _ (s : Tables) (e : improper (desks_of s.marks) ≡ true) where

@@ -11,9 +11,7 @@ ghost use Rattle.memory.specs.Lent.{lent, lent_three, SetsUp, Receives, GivesUp}
 ghost use Rattle.steps.specs.Kept.{JoinsAt};
 
 use asks::Arrival;
-use desk::GivenUp;
-use memory::Started;
-use paper::{Answer, Name, Sender};
+use paper::{Answer, Name, Refusal, Sender};
 use sample::Place;
 use unit::Reading;
 
@@ -24,7 +22,7 @@ pub fn set_up(
     rows: &mut [u32],
     marks: &mut [u32],
     stores: &mut [u8],
-) -> Started
+) -> Result<(), Refusal>
     ensures { SetsUp n (lent places rows marks stores) result }
 {
     let len = finds::len(places);
@@ -165,7 +163,7 @@ pub fn receive(
 }
 
 // Gives a desk's open sample up: its place is freed and its time marked finished.
-pub fn give_up(places: &mut [Place], rows: &mut [u32], marks: &mut [u32], who: Name) -> GivenUp
+pub fn give_up(places: &mut [Place], rows: &mut [u32], marks: &mut [u32], who: Name) -> Result<(), Refusal>
     ensures { GivesUp (lent_three places rows marks) who result }
 {
     let whose = looks::sender_of(who);

@@ -3,11 +3,10 @@
 #![tactic(auto)]
 
 ghost use Rattle.std.specs.Prelude.{◌≡◌, false, List, ℕ, ◌<◌};
-ghost use Rattle.paper.specs.declared.Time.TheVariants.{Known};
 ghost use Rattle.desk.specs.Desk.{own, turn, left, later_part, part_taken, part_at};
 ghost use Rattle.asks.specs.Settled.{before, after, open_in, laid_in, opening};
 
-use asks::{Arrival, Bar, Settled};
+use asks::{Arrival, Settled};
 use desk::Shares;
 use paper::limits::{PARTS_MOST, SAMPLE_MOST};
 use paper::{Answer, Outcome, Refusal, Time};
@@ -79,10 +78,10 @@ pub fn take_part(
         desk t x.used x.part d.now) }
 {
     match t {
-        Time::Known(time) => take_at(
+        Some(time) => take_at(
             h, desk, q, kinds, starts, lens, bytes, row, marks, time, x, d, out,
         ),
-        Time::Unknown => asks::said(q, x.used, Time::Unknown, Outcome::Refused(Refusal::Untimed)),
+        None => asks::said(q, x.used, None, Outcome::Refused(Refusal::Untimed)),
     }
 }
 
@@ -98,10 +97,10 @@ fn lose_at(
     out: &mut [u8],
 ) -> Answer
     ensures { (store : List ℕ)
-        → left (turn (opening h row.old marks.old store out.old desk (Known time) x
+        → left (turn (opening h row.old marks.old store out.old desk (Some time) x
         d.now).own.place result)
         row.new marks.new store out.new
-        ≡ opening h row.old marks.old store out.old desk (Known time) x d.now }
+        ≡ opening h row.old marks.old store out.old desk (Some time) x d.now }
 {
     let used = x.used;
     let part = x.part;
@@ -110,8 +109,8 @@ fn lose_at(
     let late = asks::is_late(row, marks, time);
     let bar = asks::find_bar(late, parts::oversize(new, part, d.len()), h);
     match bar {
-        Bar::Refused(why) => asks::says(used, next, Outcome::Refused(why)),
-        Bar::Free => {
+        Err(why) => asks::says(used, next, Outcome::Refused(why)),
+        Ok(()) => {
             let mut kinds: [usize; PARTS_MOST] = [0; PARTS_MOST];
             let mut starts: [usize; PARTS_MOST] = [0; PARTS_MOST];
             let mut lens: [usize; PARTS_MOST] = [0; PARTS_MOST];
@@ -153,7 +152,7 @@ pub fn lose(
         ≡ opening h row.old marks.old store out.old desk t x d.now }
 {
     match t {
-        Time::Known(time) => lose_at(h, desk, row, marks, time, x, d, out),
-        Time::Unknown => asks::says(x.used, Time::Unknown, Outcome::Refused(Refusal::Untimed)),
+        Some(time) => lose_at(h, desk, row, marks, time, x, d, out),
+        None => asks::says(x.used, None, Outcome::Refused(Refusal::Untimed)),
     }
 }

@@ -4,7 +4,7 @@ use Rattle.std.proofs.Common.{sym, ap, ◌∙◌, arith}
 use Rattle.laws.specs.Rows.{yes, lt, each, no, ge, ge-of, or-none}
 use Rattle.paper.specs.Limits.{sample_most}
 use Rattle.paper.specs.declared.Refusal.TheVariants as R
-use Rattle.paper.specs.declared.Time.{Time}
+use Rattle.paper.specs.Time.{Time}
 use Rattle.paper.specs.declared.Outcome.TheVariants as O
 use Rattle.paper.specs.declared.Answer.{Answer}
 use Rattle.desk.specs.Desk.{Own, After, turn, left, is_late, says, in_use, newest_of, later, facts, whole_taken, description_taken}

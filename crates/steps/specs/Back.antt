@@ -2,7 +2,7 @@
 -- Assumes nothing.
 use Prim.Native.Nat.{ℕ, ◌+◌, ◌*◌, ◌≤◌, ◌<◌}
 use Rattle.std.proofs.Common.{arith, subst, ◌∙◌, true≢false, length-take, take-append-drop}
-use Rattle.std.specs.Prelude.{◌≡◌, Bool, false, not, set, take, drop}
+use Rattle.std.specs.Prelude.{◌≡◌, Bool, false, not, set, take, drop, Some, None}
 use Rattle.std.proofs.Math.Path.{refl, sym, ap}
 use Rattle.std.proofs.Math.Bool.{true}
 use mathlib.Core.List.{List, ◌++◌}
@@ -15,8 +15,7 @@ use Rattle.paper.specs.Limits.{finished_most, head_size, marks_each, store_size,
 use Rattle.paper.specs.Words.{by_time}
 use Rattle.paper.specs.declared.Answer.{Answer}
 use Rattle.paper.specs.declared.Sender.{Sender}
-use Rattle.paper.specs.declared.Time.{Time}
-use Rattle.paper.specs.declared.Time.TheVariants.{Known, Unknown}
+use Rattle.paper.specs.Time.{Time}
 use Rattle.paper.specs.declared.Refusal.TheVariants as R
 use Rattle.paper.specs.declared.Outcome.TheVariants as O
 use Rattle.unit.specs.declared.Unit.{Unit}
@@ -242,9 +241,9 @@ module _ (s : Tables) (who : Sender) where
         refusal =
             let o = own_at who.desk closed s.rows s.marks s.stores out in
             small ⇒ refuse o 0 who.time R.Output
-            ⁏ refuse o x.used Unknown R.Untimed
+            ⁏ refuse o x.used None R.Untimed
 
-        outcome-any : who.time ≡ Unknown → (k : ℕ) → outcome k ≡ spliced s.places false false refusal
+        outcome-any : who.time ≡ None → (k : ℕ) → outcome k ≡ spliced s.places false false refusal
         outcome-any e k =
             let l = take k s.places in
             let none : open_at who.desk who.time l ≡ closed =
@@ -269,8 +268,8 @@ module _ (s : Tables) (who : Sender) where
             λ i. spliced (back i) (was i) (is i) (made i)
 
         over-all : n ≤ desks_most → places n ≤ len → (t : Time) → who.time ≡ t → outcome m ≡ outcome (places n)
-        over-all few enough (Known time) e = ap outcome (ap (λ (t : Time). reach_at n t len) e ∙ reach-all n len few enough)
-        over-all few enough Unknown e = outcome-any e m ∙ sym (outcome-any e (places n))
+        over-all few enough (Some time) e = ap outcome (ap (λ (t : Time). reach_at n t len) e ∙ reach-all n len few enough)
+        over-all few enough None e = outcome-any e m ∙ sym (outcome-any e (places n))
 
         -- 1 leaves the place, and with it the places and the numbers
         unkept : (a : After) → a.own.place ≡ p
@@ -384,8 +383,8 @@ module _ (s : Tables) (who : Sender) where
         go false false t U.End k = refl
         go false false t (U.Skipped y) k = refl
         go false false t (U.Refused w) k = refl
-        go false false (Known time) (U.Whole w) k = absurd (true≢false (sym k))
-        go false false Unknown (U.Whole w) k = refl
+        go false false (Some time) (U.Whole w) k = absurd (true≢false (sym k))
+        go false false None (U.Whole w) k = refl
         go false false t (U.Part w) k = refl
         go false false t (U.Description w) k = refl
 
@@ -417,9 +416,9 @@ module _ (s : Tables) (who : Sender) where
         go : (b : Bool) → one ≡ b → (t : Time) → who.time ≡ t → (c : Bool) → is_text r.unit ≡ c
             → done (tables s.places rows marks stores) out' a ≡ received_at s who rest out
         go true f t h c g = any (ap (λ (b : Bool). b or not (looks_at who.time r.unit)) f)
-        go false f Unknown h c g = any (λ i. f i or not (looks_at (h i) r.unit))
-        go false f (Known time) h false g = any ((λ i. f i or not (looks_at (h i) r.unit)) ∙ ap not g)
-        go false f (Known time) h true g =
+        go false f None h c g = any (λ i. f i or not (looks_at (h i) r.unit))
+        go false f (Some time) h false g = any ((λ i. f i or not (looks_at (h i) r.unit)) ∙ ap not g)
+        go false f (Some time) h true g =
             let w = or-none _ _ f in
             let v = proper n who.desk w.0 in
             let l = all-long n len (length s.rows) (length s.marks) (length s.stores) w.1 in

@@ -1,5 +1,5 @@
 -- What a call finds in the table of places, and where what it keeps goes: the definitions' place. Assumes nothing.
-use Rattle.std.specs.Prelude.{ℕ, ◌≤◌, ◌<◌, min, ◌≡◌, Bool, get_or, take}
+use Rattle.std.specs.Prelude.{ℕ, ◌≤◌, ◌<◌, min, ◌≡◌, Bool, get_or, take, Some, None}
 use Rattle.std.proofs.Common.{arith, ◌∙◌, true≢false, take-append-drop, get_or-set_same, get_or-take, length-take-le}
 use Rattle.std.proofs.Math.Path.{refl, sym, ap}
 use Rattle.std.proofs.Math.Bool.{true, false}
@@ -10,8 +10,7 @@ use Rattle.std.proofs.lemmas.List.{set-append_left}
 use Rattle.laws.specs.Rows.{◌⇒◌⁏◌, ◌and◌, ◌<?◌, each, yes, no, lt, ge, lt_of, ge-of, and-of, not_is}
 use Rattle.laws.specs.Table.{seek, seek_hit}
 use Rattle.paper.specs.Limits.{desks_most, places}
-use Rattle.paper.specs.declared.Time.{Time}
-use Rattle.paper.specs.declared.Time.TheVariants.{Known, Unknown}
+use Rattle.paper.specs.Time.{Time}
 use Rattle.sample.specs.declared.Place.{Place}
 use Rattle.sample.specs.Place.{bare, closed}
 use Rattle.asks.specs.Settled.{open_in, laid}
@@ -29,8 +28,8 @@ reach-all n len h k = let q : min (places n) len ≡ places n = omega arith in s
 
 pub reach-most : (n : ℕ) (t : Time) (len : ℕ) → reach_at n t len ≤ len
 unfolding reach_of
-reach-most n (Known time) len = each (λ (m : ℕ). m ≤ len) _ _ _ (λ e. omega arith) (λ e. omega arith)
-reach-most n Unknown len = omega arith
+reach-most n (Some time) len = each (λ (m : ℕ). m ≤ len) _ _ _ (λ e. omega arith) (λ e. omega arith)
+reach-most n None len = omega arith
 
 -- where there are m places, a store among them leaves what lies beyond
 pub set_front : (m i : ℕ) (p : Place) (l : List Place) → m ≤ length l → i < m → set l i p ≡ set (take m l) i p ++ drop m l

@@ -2,7 +2,7 @@
 use Rattle.std.specs.Prelude.{ℕ, ◌≤◌, ◌≡◌, refl, false, List, length}
 use Rattle.std.proofs.Common.{arith, sym, ap}
 use Rattle.laws.specs.Rows.{◌⇒◌⁏◌, each, no, lt_of}
-use Rattle.paper.specs.declared.Time.{Time}
+use Rattle.paper.specs.Time.{Time}
 use Rattle.unit.specs.declared.Part as P
 use Rattle.unit.specs.Reads.{Counts}
 use Rattle.sample.specs.declared.Place.{Place}

@@ -1,5 +1,5 @@
 -- The steps of a call in between: what a call leaves of everything but the table. Assumes nothing.
-use Rattle.std.specs.Prelude.{ℕ, ◌+◌, ◌*◌, Bool, List, [], length}
+use Rattle.std.specs.Prelude.{ℕ, ◌+◌, ◌*◌, Bool, List, [], length, Ok, Err}
 use Rattle.laws.specs.Rows.{◌or◌}
 use Rattle.laws.specs.Region.{part, splice}
 use Rattle.paper.specs.Limits.{finished_most, marks_each, store_size, head_size}
@@ -9,8 +9,7 @@ use Rattle.paper.specs.declared.Sender.{Sender}
 use Rattle.unit.specs.declared.Reading.{Reading}
 use Rattle.sample.specs.declared.Place.{Place}
 use Rattle.sample.specs.Place.{closed}
-use Rattle.desk.specs.declared.GivenUp.{GivenUp}
-use Rattle.desk.specs.declared.GivenUp.TheVariants as G
+use Rattle.desk.specs.GivenUp.{GivenUp}
 use Rattle.desk.specs.Desk.{Own, After, Given, own, part_at}
 use Rattle.asks.specs.declared.Arrival.{Arrival}
 use Rattle.asks.specs.Settled.{laid, passed}
@@ -96,5 +95,5 @@ yielding table p rows marks who =
 
 -- the place after a give-up
 abbrev pub place_after : GivenUp → Place → Place
-place_after G.Freed p = closed
-place_after (G.Refused r) p = p
+place_after (Ok u) p = closed
+place_after (Err r) p = p

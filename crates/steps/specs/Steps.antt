@@ -1,5 +1,6 @@
 -- One law for each way that the steps return, in the code's own values. Assumes nothing.
-use Rattle.std.specs.Prelude.{ℕ, ◌+◌, ◌-◌, ◌*◌, ◌≡◌, refl, Bool, true, length}
+use Rattle.gate.specs.Passes.{Through}
+use Rattle.std.specs.Prelude.{ℕ, ◌+◌, ◌-◌, ◌*◌, ◌≡◌, refl, Bool, true, length, Err}
 use Rattle.std.proofs.Common.{arith, ◌∙◌}
 use Rattle.std.proofs.Math.Path.{sym, ap, ap₂}
 use Rattle.std.proofs.Math.Bool.{false}
@@ -17,16 +18,14 @@ use Rattle.unit.specs.declared.Reading.{Reading}
 use Rattle.sample.specs.declared.Place.{Place}
 use Rattle.sample.specs.Place.{bare, closed}
 use Rattle.desk.specs.declared.Shares.{Shares}
-use Rattle.desk.specs.declared.GivenUp.{GivenUp}
-use Rattle.desk.specs.declared.GivenUp.TheVariants as G
+use Rattle.desk.specs.GivenUp.{GivenUp}
 use Rattle.desk.specs.Desk.{Own, After, Given, own, says, turn, left, freed, refuse, part_at, given_up}
 use Rattle.asks.specs.declared.Arrival.{Arrival}
 use Rattle.asks.specs.Settled.{open_in, laid_in, passed}
 use Rattle.asks.specs.Asked.{laid_same}
 use Rattle.memory.specs.Relay.{desks_of, row_of, marks_of, store_of, stored_shares, recounted, stranger, lacks_three, yielded}
 use Rattle.memory.proofs.Counted.{recounted-same}
-use Rattle.gate.specs.declared.Gate.{Gate}
-use Rattle.gate.specs.declared.Gate.TheVariants.{Through, Shut}
+use Rattle.gate.specs.Passes.{Gate}
 use Rattle.gate.specs.Gate.{gate_of}
 use Rattle.steps.specs.Plan.{Plan, plan, plan_of, own_at, settled_plan, part_of_rest, part_planned, laid_plan, counted_plan}
 use Rattle.steps.specs.Plan.{pass_planned, Yield, yield, yield_of, counted_yield, yielding, place_after}
@@ -78,7 +77,7 @@ module _ (table : ℕ) (p : Place) (rows marks stores out : List ℕ) (who : Sen
         splice-part (store_at who.desk) store_size stores,
       )
 
-  pub plan-shut : (why : Refusal) → g ≡ Shut why
+  pub plan-shut : (why : Refusal) → g ≡ Err why
       → plan p (says 0 who.time (O.Refused why)) rows marks stores out ≡ settled_plan table p rows marks stores out who a
   plan-shut why h =
       back why
@@ -131,7 +130,7 @@ module _ (table : ℕ) (before : Place) (rows marks stores out : List ℕ) (who 
 
   module _ (f : g ≡ gate_of (desks_of marks) table (length rows) (length marks) (length stores) who.desk (length out)) where
     -- a shut gate leaves it, and the numbers
-    pub step-shut : (why : Refusal) → g ≡ Shut why → (r : Answer) → r ≡ says 0 who.time (O.Refused why)
+    pub step-shut : (why : Refusal) → g ≡ Err why → (r : Answer) → r ≡ says 0 who.time (O.Refused why)
         → plan before r rows marks stores out ≡ counted_plan who.desk before.used laid_over
     unfolding part_planned
     step-shut why k r e =
@@ -163,7 +162,7 @@ module _ (table : ℕ) (before : Place) (rows marks stores out : List ℕ) (who 
     abbrev lost_over : Plan
     lost_over = part_planned table closed rows marks stores out who x rest
 
-    pub lost-shut : (why : Refusal) → g ≡ Shut why → (r : Answer) → r ≡ says 0 who.time (O.Refused why)
+    pub lost-shut : (why : Refusal) → g ≡ Err why → (r : Answer) → r ≡ says 0 who.time (O.Refused why)
         → plan lost_over.place r rows marks stores out ≡ lost_over
     unfolding part_planned
     lost-shut why k r e =
@@ -190,7 +189,7 @@ module _ (table : ℕ) (p : Place) (rows marks stores out : List ℕ) (who : Sen
   abbrev passes : Own → After
   passes s = passed s who.time r rest
 
-  pub pass-shut : (why : Refusal) → g ≡ Shut why → (a : Answer) → a ≡ says 0 who.time (O.Refused why)
+  pub pass-shut : (why : Refusal) → g ≡ Err why → (a : Answer) → a ≡ says 0 who.time (O.Refused why)
       → plan p a rows marks stores out ≡ pass_planned table p rows marks stores out who r rest
   unfolding pass_planned
   pass-shut why k a e = rw e (plan-shut table p rows marks stores out who passes g f why k)
@@ -235,7 +234,7 @@ module _ (table : ℕ) (p : Place) (rows marks : List ℕ) (who : Name) where
   abbrev counts : Yield → Yield
   counts = counted_yield who.desk p.used
 
-  held : yield p (G.Refused R.Desk) rows marks ≡ counts (yield_of who.desk rows marks (record { own = hers; answer = G.Refused R.Desk }))
+  held : yield p (Err R.Desk) rows marks ≡ counts (yield_of who.desk rows marks (record { own = hers; answer = Err R.Desk }))
   held =
       rw (
         splice-part (row_at who.desk) finished_most rows,
@@ -244,12 +243,12 @@ module _ (table : ℕ) (p : Place) (rows marks : List ℕ) (who : Name) where
       )
 
   module _ (b : Bool) (f : b ≡ stranger n who.desk) where
-    pub yield-stranger : b ≡ true → yield p (G.Refused R.Desk) rows marks ≡ yielding table p rows marks who
+    pub yield-stranger : b ≡ true → yield p (Err R.Desk) rows marks ≡ yielding table p rows marks who
     unfolding yielding yielded
     yield-stranger h = held ∙ ap (λ (a : Given). counts (yield_of who.desk rows marks a)) (yes _ _ (either _ _ (sym f ∙ h)) refl)
 
     module _ (known : b ≡ false) (d : Bool) (k : d ≡ lacks_three n table (length rows) (length marks)) where
-      pub yield-lacking : d ≡ true → yield p (G.Refused R.Desk) rows marks ≡ yielding table p rows marks who
+      pub yield-lacking : d ≡ true → yield p (Err R.Desk) rows marks ≡ yielding table p rows marks who
       unfolding yielding yielded
       yield-lacking h =
           held

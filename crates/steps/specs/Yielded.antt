@@ -1,6 +1,7 @@
 -- A give-up as the code carries it out: the sample that it found in the table, what the desk made of it, and the place that is freed.
 -- Assumes nothing.
-use Rattle.std.specs.Prelude.{ℕ, ◌+◌, ◌*◌, ◌≤◌, ◌≡◌, true, false, List, [], ◌++◌, length, set, take, drop}
+use Rattle.desk.specs.GivenUp.{Freed}
+use Rattle.std.specs.Prelude.{ℕ, ◌+◌, ◌*◌, ◌≤◌, ◌≡◌, true, false, List, [], ◌++◌, length, set, take, drop, Some, Err}
 use Rattle.std.proofs.Math.Path.{refl, ap}
 use Rattle.std.proofs.Common.{sym, ◌∙◌}
 use Rattle.std.proofs.Math.Bool.{Bool}
@@ -9,14 +10,12 @@ use Rattle.laws.specs.Region.{splice, splice-part}
 use Rattle.laws.specs.Table.{seek}
 use Rattle.paper.specs.Limits.{finished_most, head_size, marks_each, store_size, desks_most, places}
 use Rattle.paper.specs.declared.Name.{Name}
-use Rattle.paper.specs.declared.Time.{Time}
-use Rattle.paper.specs.declared.Time.TheVariants.{Known}
+use Rattle.paper.specs.Time.{Time}
 use Rattle.paper.specs.declared.Refusal.{Refusal}
 use Rattle.paper.specs.declared.Refusal.TheVariants as R
 use Rattle.sample.specs.declared.Place.{Place}
 use Rattle.sample.specs.Place.{bare, closed}
-use Rattle.desk.specs.declared.GivenUp.{GivenUp}
-use Rattle.desk.specs.declared.GivenUp.TheVariants as G
+use Rattle.desk.specs.GivenUp.{GivenUp}
 use Rattle.desk.specs.Desk.{Own, Given, own, finish, given_up}
 use Rattle.table.specs.Table.{stored as put_in}
 use Rattle.memory.specs.Table.{is_at}
@@ -39,7 +38,7 @@ module _ (s : Tables) (who : Name) where
   len = length s.places
 
   abbrev time : Time
-  time = Known who.time
+  time = Some who.time
 
   abbrev reach : ℕ
   reach = reach_of n len
@@ -66,7 +65,7 @@ module _ (s : Tables) (who : Name) where
       hers p store = own p (row_of who.desk s.rows) (marks_of who.desk s.marks) store []
 
       gives : (b : Bool) → Place → List ℕ → Given
-      gives b p store = b ⇒ record { own = hers p store; answer = G.Refused R.Desk } ⁏ given_up (hers p store) who.time
+      gives b p store = b ⇒ record { own = hers p store; answer = Err R.Desk } ⁏ given_up (hers p store) who.time
 
       let_go : Given → Released
       let_go a =
@@ -75,10 +74,10 @@ module _ (s : Tables) (who : Name) where
           (splice (head_size + marks_each * who.desk) marks_each a.own.marks s.marks)) s.stores) a.answer
 
       -- a refusal frees nothing
-      none-freed : (w : Refusal) → freeing (G.Refused w) ≡ s.places
+      none-freed : (w : Refusal) → freeing (Err w) ≡ s.places
       none-freed w = sym (no _ _ (ge _ _ (reach-most n time len)) refl)
 
-      same : (w : Refusal) → let_go (record { own = hers it []; answer = G.Refused w }) ≡ released s (G.Refused w)
+      same : (w : Refusal) → let_go (record { own = hers it []; answer = Err w }) ≡ released s (Err w)
       same w =
           rw (
             none-freed w,
@@ -87,17 +86,17 @@ module _ (s : Tables) (who : Name) where
             recounted-same who.desk it.used s.marks,
           )
 
-      held : (w : Refusal) → released s (G.Refused w)
-          ≡ returned n s who.desk who.time (record { own = own_of n s who.desk time []; answer = G.Refused w })
-      held w = ap (λ (t : Tables). released t (G.Refused w)) (sym (put_same n s who.desk time []))
+      held : (w : Refusal) → released s (Err w)
+          ≡ returned n s who.desk who.time (record { own = own_of n s who.desk time []; answer = Err w })
+      held w = ap (λ (t : Tables). released t (Err w)) (sym (put_same n s who.desk time []))
 
       settles : (b : Bool) → Place → List ℕ → Given
       settles b p store =
-          b ⇒ record { own = finish (hers p store) who.time closed []; answer = G.Freed }
-          ⁏ record { own = hers p store; answer = G.Refused R.NotOpen }
+          b ⇒ record { own = finish (hers p store) who.time closed []; answer = Freed }
+          ⁏ record { own = hers p store; answer = Err R.NotOpen }
 
       freed-at : reach ≡ places n → it.used ≡ true
-          → freeing G.Freed ≡ placed who.desk time closed (places_of n s) ++ drop (places n) s.places
+          → freeing Freed ≡ placed who.desk time closed (places_of n s) ++ drop (places n) s.places
       freed-at q u =
           let u' = found-used who.desk time reach s.places (reach-most n time len) in
           let h = lt_of _ _ (sym u' ∙ u) in
@@ -106,15 +105,15 @@ module _ (s : Tables) (who : Name) where
           (sym (stands-found who.desk time reach s.places (reach-most n time len) h closed))
           ∙ ap (λ (k : ℕ). placed who.desk time closed (take k s.places) ++ drop k s.places) q
 
-      stayed : reach ≡ places n → (w : Refusal) → released s (G.Refused w)
-          ≡ returned n s who.desk who.time (record { own = hers it (store_of who.desk s.stores); answer = G.Refused w })
+      stayed : reach ≡ places n → (w : Refusal) → released s (Err w)
+          ≡ returned n s who.desk who.time (record { own = hers it (store_of who.desk s.stores); answer = Err w })
       stayed q w =
           held w
           ∙ ap (λ (k : ℕ). returned n s who.desk who.time
           (record {
             own = hers (open_at who.desk time (take k s.places))
                 (store_of who.desk s.stores);
-            answer = G.Refused w;
+            answer = Err w;
           })) (sym q)
 
       used-is : reach ≡ places n → it.used ≡ (open_at who.desk time (places_of n s)).used

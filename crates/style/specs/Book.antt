@@ -1,13 +1,13 @@
 -- The style book: records one after the other, no header. Assumes nothing.
-use Rattle.std.specs.Prelude.{ℕ, zero, suc, ◌+◌, ◌-◌, ◌/◌, List, [], ◌∷◌, Bool, length}
+use Rattle.style.specs.Checked.{bad}
+use Rattle.std.specs.Prelude.{ℕ, zero, suc, ◌+◌, ◌-◌, ◌/◌, List, [], ◌∷◌, Bool, length, Ok, Err}
 use Rattle.laws.specs.Rows.{◌⇒◌⁏◌, ◌or◌, ◌and◌, ◌<?◌, ◌=?◌}
 use Rattle.laws.specs.Region.{part}
 use Rattle.octets.specs.Be.{u8_at}
 use Rattle.paper.specs.Limits.{record_size, description_most, in_band, reserved}
 use Rattle.paper.specs.Words.{number_of}
 use Rattle.paper.specs.declared.Refusal.TheVariants.{Book}
-use Rattle.style.specs.declared.Checked.{Checked}
-use Rattle.style.specs.declared.Checked.TheVariants.{Good, Refused}
+use Rattle.style.specs.Checked.{Checked}
 use Rattle.style.specs.Record.{record_at, index_of, length_of, description_of, filled}
 
 -- ---- what is wrong with a record
@@ -44,12 +44,12 @@ bad_record book i = broken (record_at book i) or falling book i
 -- ---- the check
 -- its answer: its number, 0 for a good book, and the value that goes with it, how many records there are or the first bad one's number
 abbrev pub checked_number : Checked → ℕ
-checked_number (Good n) = 0
-checked_number (Refused r i) = number_of r
+checked_number (Ok n) = 0
+checked_number (Err b) = number_of b.why
 
 abbrev pub checked_values : Checked → List ℕ
-checked_values (Good n) = n ∷ []
-checked_values (Refused r i) = i ∷ []
+checked_values (Ok n) = n ∷ []
+checked_values (Err b) = b.at ∷ []
 
 -- how many records there are, with one that is cut short
 abbrev pub count_of : List ℕ → ℕ
@@ -57,8 +57,8 @@ count_of book = (length book + (record_size - 1)) / record_size
 
 -- n records from record i on: the first bad one is told
 unfoldable pub check_from : List ℕ → (i n : ℕ) → Checked
-check_from book i zero = Good i
-check_from book i (suc n) = bad_record book i ⇒ Refused Book i ⁏ check_from book (suc i) n
+check_from book i zero = Ok i
+check_from book i (suc n) = bad_record book i ⇒ Err (bad Book i) ⁏ check_from book (suc i) n
 
 abbrev pub check_of : List ℕ → Checked
 check_of book = check_from book 0 (count_of book)
@@ -71,5 +71,5 @@ entry_from book index i (suc n) = index_of (record_at book i) =? index ⇒ descr
 
 -- nothing is shown from a book that breaks the rules
 abbrev pub entry_of : List ℕ → ℕ → Checked → List ℕ
-entry_of book index (Good n) = entry_from book index 0 n
-entry_of book index (Refused r i) = []
+entry_of book index (Ok n) = entry_from book index 0 n
+entry_of book index (Err b) = []

@@ -1,3 +1,4 @@
+pub mod Checked
 pub mod Record
 pub mod Book
 pub mod Store

@@ -1,15 +1,15 @@
 -- The loops, one turn and the end of each: to go on with what is left is to do all. Assumes nothing.
+use Rattle.style.specs.Checked.{bad}
 use Prim.Native.Nat.{ℕ, suc, ◌+◌, ◌-◌, ◌*◌, ◌/◌, ◌<◌, ◌≤◌}
 use native.Mathlib.Omega.{arith}
 use Rattle.std.proofs.Math.Numerals.{add-one}
-use Rattle.std.specs.Prelude.{List, [], true, false, ◌≡◌, refl, length, get_or, drop}
+use Rattle.std.specs.Prelude.{List, [], true, false, ◌≡◌, refl, length, get_or, drop, Ok, Err}
 use Rattle.std.proofs.Common.{sym, drop_of_length-le}
 use Rattle.std.proofs.Math.Seq.{drop-cons, take-nil}
 use Rattle.laws.specs.Rows.{yes, no, lt, ge, eq, ne}
 use Rattle.paper.specs.Limits.{record_size, description_most}
 use Rattle.paper.specs.declared.Refusal.TheVariants.{Book}
 use Rattle.paper.specs.declared.Outcome.TheVariants.{Described}
-use Rattle.style.specs.declared.Checked.TheVariants.{Good, Refused}
 use Rattle.style.specs.Record.{record_at, index_of, description_of, filled}
 use Rattle.style.specs.Book.{bad_record, check_from, entry_from}
 use Rattle.style.specs.Store.{moved, held, repeated, improper, forgotten_at, forgotten_from, forgotten, stored, noted_as, left, noted}
@@ -34,7 +34,7 @@ module _ (s : List ℕ) (i : ℕ) where
 
 -- ---- the check of a book, from record i of n on
 module _ (book : List ℕ) (i n : ℕ) where
-  pub check-here : i < n → bad_record book i ≡ true → check_from book i (n - i) ≡ Refused Book i
+  pub check-here : i < n → bad_record book i ≡ true → check_from book i (n - i) ≡ Err (bad Book i)
   unfolding check_from
   check-here h k = let q : n - i ≡ suc (n - (i + 1)) = omega arith in rw q (sym (yes _ _ k refl))
 
@@ -42,7 +42,7 @@ module _ (book : List ℕ) (i n : ℕ) where
   unfolding check_from
   check-next h k = let q : n - i ≡ suc (n - (i + 1)) = omega arith in rw (q, add-one i) (sym (no _ _ k refl))
 
-  pub check-end : i ≤ n → n ≤ i → check_from book i (n - i) ≡ Good n
+  pub check-end : i ≤ n → n ≤ i → check_from book i (n - i) ≡ Ok n
   unfolding check_from
   check-end h k = let q : n - i ≡ 0 = omega arith in let e : i ≡ n = omega arith in rw (q, e)
 

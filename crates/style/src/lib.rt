@@ -4,11 +4,11 @@
 
 use paper::{Outcome, Refusal};
 
-// How many records a good book has; or the refusal, and the number of the first bad record, from 0.
+// Why a style book is refused, and the number of its first bad record, from 0.
 #[derive(Clone, Copy)]
-pub enum Checked {
-    Good(usize),
-    Refused(Refusal, usize),
+pub struct BadRecord {
+    pub why: Refusal,
+    pub at: usize,
 }
 
 // What a description unit gives: the newest value from now on, and the outcome.

@@ -8,7 +8,6 @@ ghost use Rattle.asks.specs.Settled.{before, after, open_in};
 ghost use Rattle.steps.specs.Plan.{plan, part_planned, laid_plan, counted_plan};
 
 use asks::{Arrival, Settled};
-use gate::Gate;
 use paper::limits::{FINISHED_MOST, HEAD_SIZE, MARKS_EACH, PARTS_MOST, SAMPLE_MOST};
 use paper::{Answer, Outcome, Sender};
 use sample::Head;
@@ -41,11 +40,11 @@ pub fn step(
     let t = who.time;
     let g = gate::gate_of(n, table, rows, marks, store_len, who.desk, out);
     match g {
-        Gate::Shut(why) => Settled {
+        Err(why) => Settled {
             head: q,
             answer: asks::says(0, t, Outcome::Refused(why)),
         },
-        Gate::Through => {
+        Ok(()) => {
             let h = tally::shares(marks, n, who.desk);
             let row = FINISHED_MOST * who.desk;
             let mark = HEAD_SIZE + MARKS_EACH * who.desk;
@@ -94,8 +93,8 @@ pub fn step_lost(
     let t = who.time;
     let g = gate::gate_of(n, table, rows, marks, store_len, who.desk, out);
     match g {
-        Gate::Shut(why) => asks::says(0, t, Outcome::Refused(why)),
-        Gate::Through => {
+        Err(why) => asks::says(0, t, Outcome::Refused(why)),
+        Ok(()) => {
             let h = tally::shares(marks, n, who.desk);
             let row = FINISHED_MOST * who.desk;
             let mark = HEAD_SIZE + MARKS_EACH * who.desk;

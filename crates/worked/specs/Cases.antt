@@ -1,21 +1,19 @@
 -- The twelve cases of document 01, 'Worked by hand', and those of requests 1 to 3 of document 02, as lists, and one statement over them:
 -- each holds of the definitions that the promises of set-up, receive, give-up, lookup and the writer cite. Assumes nothing.
-use Rattle.std.specs.Prelude.{ℕ, ◌≡◌, ◌⊎◌, replicate, drop}
+use Rattle.memory.specs.Started.{Ready}
+use Rattle.writer.specs.Written.{packed}
+use Rattle.std.specs.Prelude.{ℕ, ◌≡◌, ◌⊎◌, replicate, drop, Some, None, Err}
 use mathlib.Core.List.{List, [], ◌∷◌, ◌++◌, map}
 use Rattle.std.proofs.lemmas.List.Edits.{sets}
 use Rattle.laws.specs.Region.{part}
 use Rattle.paper.specs.Limits.{head_size}
 use Rattle.paper.specs.declared.Refusal.TheVariants as R
-use Rattle.paper.specs.declared.Time.TheVariants.{Known, Unknown}
 use Rattle.paper.specs.declared.Outcome.{Outcome}
 use Rattle.paper.specs.declared.Outcome.TheVariants as O
-use Rattle.desk.specs.declared.GivenUp.TheVariants as G
 use Rattle.desk.specs.Desk.{says, facts}
-use Rattle.writer.specs.declared.Written.{Written}
-use Rattle.writer.specs.declared.Written.TheVariants as W
+use Rattle.writer.specs.Written.{Written}
 use Rattle.writer.specs.Write.{Caption, caption}
 use Rattle.writer.specs.Write.{after, written}
-use Rattle.memory.specs.declared.Started.TheVariants.{Ready}
 use Rattle.memory.specs.Relay.{Tables, set_up}
 use Rattle.good.specs.Fresh.{Exact, exact_tables}
 use Rattle.peace.specs.Run.{Call, receive, give-up, Got, answered, released, next, run}
@@ -58,7 +56,7 @@ All (c ∷ cs) = Holds c × All cs
 
 -- ---- the calls
 abbrev pub at : (desk time : ℕ) → List ℕ → Call
-at desk time rest = receive desk (Known time) rest blank_output
+at desk time rest = receive desk (Some time) rest blank_output
 
 -- a unit of case 7 at each of these times
 abbrev pub part1 : List ℕ
@@ -75,10 +73,10 @@ opens desk times = map (λ (t : ℕ). at desk t part1) times
 
 -- ---- the answers: with the output as it was, or with a sample at its front
 abbrev pub hears : (used next : ℕ) → Outcome → Got
-hears used next x = answered (says used (Known next) x) blank_output
+hears used next x = answered (says used (Some next) x) blank_output
 
 abbrev pub handed : (used next : ℕ) → Outcome → List ℕ → Got
-handed used next x bytes = answered (says used (Known next) x) (sets blank_output 0 bytes)
+handed used next x bytes = answered (says used (Some next) x) (sets blank_output 0 bytes)
 
 abbrev pub keeps : (times : List ℕ) → List Got
 keeps times = map (λ (t : ℕ). hears 12 t (O.Kept 1)) times
@@ -128,21 +126,21 @@ case_10 =
 -- eight letters in two parts of four: LEN 13, TOTAL 2 and THIS, SDUR 1, SIDX 128, SLEN 8. The output behind them stays
 abbrev pub case_11 : (k TOTAL-THIS : ℕ) → Case
 case_11 k TOTAL-THIS =
-    writes 8 14 k (W.Payload 14 2)
+    writes 8 14 k (packed 14 2)
     (0x02 ∷ 0x00 ∷ 0x0D ∷ TOTAL-THIS ∷ 0x00 ∷ 0x00 ∷ 0x01 ∷ 0x80 ∷ 0x00 ∷ 0x08 ∷ replicate 4 0x61 ++ replicate 6 0xEE)
 
 -- and in one TYPE 1
 abbrev pub case_11_whole : Case
 case_11_whole =
-    writes 8 17 1 (W.Payload 17 1) (0x01 ∷ 0x00 ∷ 0x10 ∷ 0x80 ∷ 0x00 ∷ 0x00 ∷ 0x01 ∷ 0x00 ∷ 0x08 ∷ replicate 8 0x61 ++ replicate 3 0xEE)
+    writes 8 17 1 (packed 17 1) (0x01 ∷ 0x00 ∷ 0x10 ∷ 0x80 ∷ 0x00 ∷ 0x00 ∷ 0x01 ∷ 0x00 ∷ 0x08 ∷ replicate 8 0x61 ++ replicate 3 0xEE)
 
 abbrev pub case_12 : Case
 case_12 =
-    writes 60 14 15 (W.Payload 14 15)
+    writes 60 14 15 (packed 14 15)
     (0x02 ∷ 0x00 ∷ 0x0D ∷ 0xFF ∷ 0x00 ∷ 0x00 ∷ 0x01 ∷ 0x80 ∷ 0x00 ∷ 0x3C ∷ replicate 4 0x61 ++ replicate 6 0xEE)
 
 abbrev pub case_12_refused : Case
-case_12_refused = writes 61 14 1 (W.Refused R.Parts) lent_output
+case_12_refused = writes 61 14 1 (Err R.Parts) lent_output
 
 -- ---- request 1 of document 02
 -- SDUR 9, TLEN 1,025 and as many bytes FF, at time 6: 17, before 5; the unit's bytes are used, and the time stays
@@ -160,7 +158,7 @@ euro LEN TOTAL-THIS d = at 0 5 (0x02 ∷ 0x00 ∷ LEN ∷ TOTAL-THIS ∷ 0x00 �
 abbrev pub case_17_halves : Case
 case_17_halves =
     plays 1 (euro 0x0B 0x21 (0xE2 ∷ 0x82 ∷ []) ∷ euro 0x0A 0x22 (0xAC ∷ []) ∷ give-up 0 5 ∷ [])
-    (hears 12 5 (O.Refused R.IllFormed) ∷ hears 11 5 (O.Refused R.IllFormed) ∷ released (G.Refused R.NotOpen) ∷ [])
+    (hears 12 5 (O.Refused R.IllFormed) ∷ hears 11 5 (O.Refused R.IllFormed) ∷ released (Err R.NotOpen) ∷ [])
 
 -- a sample of these bytes, the first TLEN of them its string; byte 0 is U and TYPE 1, SDUR 1
 abbrev pub text : (head LEN TLEN : ℕ) → List ℕ → List ℕ
@@ -215,10 +213,10 @@ behind =
 
 -- at an unknown time: what is left behind so many bytes of these, and an answer that says the time is unknown
 abbrev pub lost : (bytes : ℕ) → Call
-lost bytes = receive 0 Unknown (drop bytes behind) blank_output
+lost bytes = receive 0 None (drop bytes behind) blank_output
 
 abbrev pub unknown : (used : ℕ) → Outcome → Got
-unknown used x = answered (says used Unknown x) blank_output
+unknown used x = answered (says used None x) blank_output
 
 -- a sample whose string is half a letter, and the last of two parts, of SDUR 0
 abbrev pub half : List ℕ
@@ -231,12 +229,12 @@ last = 0x02 ∷ 0x00 ∷ 0x0A ∷ 0x22 ∷ 0x00 ∷ 0x00 ∷ 0x00 ∷ 0x80 ∷ 0
 -- late, and the time unknown again; and so it is behind a last part that is kept
 abbrev pub live_calls : List Call
 live_calls =
-    at 0 0 (line ++ behind) ∷ lost 0 ∷ lost 9 ∷ lost 14 ∷ lost 17 ∷ lost 18 ∷ receive 0 Unknown half blank_output ∷ at 0 0 line
+    at 0 0 (line ++ behind) ∷ lost 0 ∷ lost 9 ∷ lost 14 ∷ lost 17 ∷ lost 18 ∷ receive 0 None half blank_output ∷ at 0 0 line
     ∷ at 0 9 last ∷ []
 
 abbrev pub live_gets : List Got
 live_gets =
-    answered (says 10 Unknown (O.Whole (facts 0 0 128 0 1 1))) (sets blank_output 0 (0x41 ∷ [])) ∷ unknown 9 (O.Refused R.Untimed)
+    answered (says 10 None (O.Whole (facts 0 0 128 0 1 1))) (sets blank_output 0 (0x41 ∷ [])) ∷ unknown 9 (O.Refused R.Untimed)
     ∷ unknown 5 O.Described ∷ unknown 3 (O.Skipped 6) ∷ unknown 1 (O.Refused R.Frame) ∷ unknown 0 O.End
     ∷ unknown 10 (O.Refused R.IllFormed)
     ∷ unknown 10 (O.Refused R.Late) ∷ unknown 11 (O.Kept 1)

@@ -1,14 +1,14 @@
 -- Case 9 as runs from set-up: a desk describes 10 and then another value, and looks both up. Such a desk asks for no place, so that it
 -- gets, in any lent memory that is long enough and whatever all others do, what it gets alone; and what it gets alone the laws of its
 -- window tell, for every store. Assumes nothing.
-use Rattle.std.specs.Prelude.{ℕ, ◌+◌, ◌-◌, ◌*◌, ◌≤◌, ◌<◌, ◌≡◌, Bool, true, false, List, [], ◌∷◌, length, replicate}
+use Rattle.memory.specs.Started.{Ready}
+use Rattle.std.specs.Prelude.{ℕ, ◌+◌, ◌-◌, ◌*◌, ◌≤◌, ◌<◌, ◌≡◌, Bool, true, false, List, [], ◌∷◌, length, replicate, Some}
 use Rattle.std.proofs.Common.{arith, ap₂, ◌∙◌, true≢false, inl, ⊎_elim}
 use Rattle.std.proofs.Math.Path.{refl, sym, ap}
 use Rattle.std.proofs.lemmas.List.{length-replicate}
 use Rattle.laws.specs.Rows.{◌⇒◌⁏◌, ◌<?◌, ◌=?◌, each, no, ge}
 use Rattle.laws.specs.Table.{bit}
 use Rattle.paper.specs.Limits.{sample_most, in_band, window, record_size, finished_most, store_size}
-use Rattle.paper.specs.declared.Time.TheVariants.{Known}
 use Rattle.paper.specs.declared.Outcome.TheVariants as O
 use Rattle.text.specs.Unicode.{well_formed, well_within}
 use Rattle.unit.specs.Layout.{description, reading, read_of, broken, judged, fields_of, least, bad_description, text_judged, ill_text}
@@ -22,7 +22,6 @@ use Rattle.style.specs.Slots.{in-window-of, held_of}
 use Rattle.style.specs.Window.{only-window, described-as, stored-held, stored-shown, still-held, never-changed, forgotten-gone, only-slots}
 use Rattle.desk.specs.declared.Shares.{Shares}
 use Rattle.desk.specs.Desk.{After, says, description_taken, received}
-use Rattle.memory.specs.declared.Started.TheVariants.{Ready}
 use Rattle.memory.specs.Relay.{Tables, set_up, ordered}
 use Rattle.good.specs.View.{View, own_in, seen_after, receives}
 use Rattle.good.specs.Fresh.{fresh_view}
@@ -42,13 +41,13 @@ unit5 SIDX byte = 0x05 ∷ 0x00 ∷ 0x04 ∷ SIDX ∷ byte ∷ []
 -- 10 is described and then b, and both are looked up, with no style book
 abbrev pub describes : (desk b : ℕ) → List Call
 describes desk b =
-    receive desk (Known 0) (unit5 10 0x41) blank_output ∷ receive desk (Known 0) (unit5 b 0x42) blank_output
+    receive desk (Some 0) (unit5 10 0x41) blank_output ∷ receive desk (Some 0) (unit5 b 0x42) blank_output
     ∷ lookup desk 10 [] ∷ lookup desk b [] ∷ []
 
 -- both are described; then 10 shows this, and b its byte
 abbrev pub describes_gets : (ten : List ℕ) → List Got
 describes_gets ten =
-    answered (says 5 (Known 0) O.Described) blank_output ∷ answered (says 5 (Known 0) O.Described) blank_output
+    answered (says 5 (Some 0) O.Described) blank_output ∷ answered (says 5 (Some 0) O.Described) blank_output
     ∷ shown ten ∷ shown (0x42 ∷ []) ∷ []
 
 -- ---- the desk alone
@@ -62,26 +61,26 @@ room = ge _ _ (omega (arith, length-replicate {A = ℕ} sample_most 0))
 module _ (desk SIDX byte : ℕ) (e : read_of (unit5 SIDX byte) ≡ reading 5 (description SIDX 1)) where
   -- the unit is noted, whatever the shares say
   noting : (h : Shares) (v : View)
-      → receives h v desk (Known 0) (unit5 SIDX byte) blank_output
-      ≡ description_taken (own_in v (Known 0) blank_output) (Known 0) 5 (record { sidx = SIDX; start = 4; len = 1 }) (byte ∷ [])
+      → receives h v desk (Some 0) (unit5 SIDX byte) blank_output
+      ≡ description_taken (own_in v (Some 0) blank_output) (Some 0) 5 (record { sidx = SIDX; start = 4; len = 1 }) (byte ∷ [])
   unfolding ordered received
   noting h v = sym (no _ _ refl (no _ _ room (rw e)))
 
   -- and asks for no place
-  unasked : (v : View) → own_reaches v (receive desk (Known 0) (unit5 SIDX byte) blank_output) ≡ false
+  unasked : (v : View) → own_reaches v (receive desk (Some 0) (unit5 SIDX byte) blank_output) ≡ false
   unasked v = each (λ (b : Bool). b ≡ false) _ _ _ (λ q. refl) (λ q. rw e)
 
   -- the call, and what the desk sees then
   hears-one : (at : ℕ → Place) (opens : ℕ) (row : List ℕ) (newest : ℕ) (store : List ℕ) (cs : List Call)
-      → alone (sees at opens row newest store) (receive desk (Known 0) (unit5 SIDX byte) blank_output ∷ cs)
-      ≡ answered (says 5 (Known 0) (noted store newest SIDX (byte ∷ [])).answer.outcome) blank_output
+      → alone (sees at opens row newest store) (receive desk (Some 0) (unit5 SIDX byte) blank_output ∷ cs)
+      ≡ answered (says 5 (Some 0) (noted store newest SIDX (byte ∷ [])).answer.outcome) blank_output
       ∷ alone
       (sees (λ t. t =? 0 ⇒ at 0 ⁏ at t) (opens + bit (at 0).used - bit (at 0).used) row (noted store newest SIDX (byte ∷ [])).answer.newest
       (noted store newest SIDX (byte ∷ [])).store) cs
   unfolding description_taken
   hears-one at opens row newest store cs =
       let v = sees at opens row newest store in
-      ap (λ (a : After). answered a.answer a.own.out ∷ alone (seen_after v (Known 0) a.own) cs) (noting (lone v) v)
+      ap (λ (a : After). answered a.answer a.own.out ∷ alone (seen_after v (Some 0) a.own) cs) (noting (lone v) v)
 
 reads-ten : read_of (unit5 10 0x41) ≡ reading 5 (description 10 1)
 unfolding read_of broken judged text_judged ill_text well_formed well_within fields_of least bad_description ◌⇒◌⁏◌ ◌<?◌ ◌=?◌
@@ -148,18 +147,18 @@ module _ (store : List ℕ) (long : window * record_size ≤ length store) (b : 
       → (at : ℕ → Place) (opens : ℕ) (row : List ℕ) → alone (sees at opens row in_band store) (describes desk b) ≡ describes_gets ten
   gets-alone desk reads-b ten shows-ten at opens row =
       let looks : List Call = lookup desk 10 [] ∷ lookup desk b [] ∷ [] in
-      hears-one desk 10 0x41 reads-ten at opens row in_band store (receive desk (Known 0) (unit5 b 0x42) blank_output ∷ looks)
-      ∙ ap₂ (λ (x : Got) (l : List Got). x ∷ l) (ap (λ (a : Noted). answered (says 5 (Known 0) a.outcome) blank_output) first)
+      hears-one desk 10 0x41 reads-ten at opens row in_band store (receive desk (Some 0) (unit5 b 0x42) blank_output ∷ looks)
+      ∙ ap₂ (λ (x : Got) (l : List Got). x ∷ l) (ap (λ (a : Noted). answered (says 5 (Some 0) a.outcome) blank_output) first)
       (hears-one desk b 0x42 reads-b (λ t. t =? 0 ⇒ at 0 ⁏ at t) (opens + bit (at 0).used - bit (at 0).used) row (newest₁ store)
       (store₁ store) looks
-      ∙ ap₂ (λ (x : Got) (l : List Got). x ∷ l) (ap (λ (a : Noted). answered (says 5 (Known 0) a.outcome) blank_output) second)
+      ∙ ap₂ (λ (x : Got) (l : List Got). x ∷ l) (ap (λ (a : Noted). answered (says 5 (Some 0) a.outcome) blank_output) second)
       (ap₂ (λ (x y : List ℕ). shown x ∷ shown y ∷ []) shows-ten shows-b))
 
 frugal : (desk b : ℕ) → read_of (unit5 b 0x42) ≡ reading 5 (description b 1) → (v : View) → Frugal v (describes desk b)
 frugal desk b reads-b v = (
   λ k. absurd (true≢false (sym k ∙ unasked desk 10 0x41 reads-ten v)),
   (
-    λ k. absurd (true≢false (sym k ∙ unasked desk b 0x42 reads-b (own_view v (receive desk (Known 0) (unit5 10 0x41) blank_output)))),
+    λ k. absurd (true≢false (sym k ∙ unasked desk b 0x42 reads-b (own_view v (receive desk (Some 0) (unit5 10 0x41) blank_output)))),
     (λ k. absurd (true≢false (sym k)), (λ k. absurd (true≢false (sym k)), tt)),
   ),
 )

@@ -1,6 +1,7 @@
 -- What each answer of the writer says: of a payload, that its bytes are what the writer leaves; of 12, 13 and 14, that each is given
 -- exactly when the paper says. Assumes nothing.
-use Rattle.std.specs.Prelude.{ℕ, ◌+◌, ◌≤◌, ◌<◌, ◌≡◌, refl, Bool, true, false, ◌⊎◌, List, length, take, drop}
+use Rattle.writer.specs.Written.{packed, packed-len, packed-count}
+use Rattle.std.specs.Prelude.{ℕ, ◌+◌, ◌≤◌, ◌<◌, ◌≡◌, refl, Bool, true, false, ◌⊎◌, List, length, take, drop, Err}
 use Rattle.std.proofs.Common.{arith, sym, ap, ◌∙◌, inl, inr, ⊎_elim, take_at}
 use Rattle.std.proofs.lemmas.List.Edits.{sets, sets-eq}
 use Rattle.laws.specs.Exactly.{Exactly}
@@ -10,7 +11,6 @@ use Rattle.paper.specs.Limits.{parts_most}
 use Rattle.paper.specs.declared.Refusal.TheVariants as R
 use Rattle.unit.specs.Layout.{description}
 use Rattle.unit.specs.Again.{bytes_of}
-use Rattle.writer.specs.declared.Written.TheVariants.{Payload, Refused}
 use Rattle.writer.specs.Write.{written_number, Caption, sample, long, parts, count, payload, unsized, unwritable, uncut, After, after, written, undescribed, described}
 use Rattle.writer.proofs.Returns.{writable, returns-12, returns-13, returns-none, returns-14, cut-count, described-12, described-13, described-14}
 use Rattle.writer.proofs.Payloads.{payload-fits}
@@ -40,11 +40,11 @@ uncut-of c M = (
 
 module _ (c : Caption) (M k : ℕ) (out : List ℕ) where
   -- each row with what is known where it is reached
-  written-each : (P : After → Type 0) → (unwritable c M (length out) ≡ true → P (after (Refused R.Writer) out))
-      → (unwritable c M (length out) ≡ false → uncut c M ≡ true → P (after (Refused R.Parts) out))
-      → (unwritable c M (length out) ≡ false → uncut c M ≡ false → (k ≡ 0) ⊎ (count c M < k) → P (after (Refused R.Payload) out))
+  written-each : (P : After → Type 0) → (unwritable c M (length out) ≡ true → P (after (Err R.Writer) out))
+      → (unwritable c M (length out) ≡ false → uncut c M ≡ true → P (after (Err R.Parts) out))
+      → (unwritable c M (length out) ≡ false → uncut c M ≡ false → (k ≡ 0) ⊎ (count c M < k) → P (after (Err R.Payload) out))
       → (unwritable c M (length out) ≡ false → uncut c M ≡ false → 1 ≤ k → k ≤ count c M
-      → P (after (Payload (length (payload c M k)) (count c M)) (sets out 0 (payload c M k))))
+      → P (after (packed (length (payload c M k)) (count c M)) (sets out 0 (payload c M k))))
       → P (written c M k out)
   unfolding written
   written-each P row-12 row-13 row-14 row-payload =
@@ -55,15 +55,15 @@ module _ (c : Caption) (M k : ℕ) (out : List ℕ) where
       (λ l. let n = ne_of _ _ z in row-payload w u (omega arith) (ge-of _ _ l)))))
 
   -- what the writer leaves are the payload's bytes, and behind them the output as it was
-  pub payload-written : (len N : ℕ) → (written c M k out).answer ≡ Payload len N → PayloadWritten c M k out (written c M k out).out len N
+  pub payload-written : (len N : ℕ) → (written c M k out).answer ≡ packed len N → PayloadWritten c M k out (written c M k out).out len N
   payload-written len N =
-      written-each (λ (a : After). a.answer ≡ Payload len N → PayloadWritten c M k out a.out len N)
+      written-each (λ (a : After). a.answer ≡ packed len N → PayloadWritten c M k out a.out len N)
       (λ w e. absurd (omega (arith, ap written_number e))) (λ w u e. absurd (omega (arith, ap written_number e)))
       (λ w u z e. absurd (omega (arith, ap written_number e)))
       (λ w u some within e.
       let v = writable c M (length out) w in
-      let s : length (payload c M k) ≡ len = cc in
-      let n : count c M ≡ N = cc in
+      let s : length (payload c M k) ≡ len = packed-len e in
+      let n : count c M ≡ N = packed-count e in
       let f = payload-fits c M (length out) v u k some within in
       record {
         from = some;
@@ -75,30 +75,30 @@ module _ (c : Caption) (M k : ℕ) (out : List ℕ) where
       })
 
   -- each refusal exactly
-  pub twelve : Exactly ((written c M k out).answer ≡ Refused R.Writer) (unwritable c M (length out) ≡ true)
+  pub twelve : Exactly ((written c M k out).answer ≡ Err R.Writer) (unwritable c M (length out) ≡ true)
   twelve = (
-    written-each (λ (a : After). a.answer ≡ Refused R.Writer → unwritable c M (length out) ≡ true) (λ w e. w)
+    written-each (λ (a : After). a.answer ≡ Err R.Writer → unwritable c M (length out) ≡ true) (λ w e. w)
         (λ w u e. absurd (omega (arith, ap written_number e))) (λ w u z e. absurd (omega (arith, ap written_number e)))
         (λ w u a b e. absurd (omega (arith, ap written_number e))),
     λ w. ap (λ (a : After). a.answer) (sym (returns-12 c M k out w)),
   )
 
-  pub thirteen : Exactly ((written c M k out).answer ≡ Refused R.Parts)
+  pub thirteen : Exactly ((written c M k out).answer ≡ Err R.Parts)
       ((unwritable c M (length out) ≡ false) × ((M < length (sample c) + 9) × ((length c.string ≡ 0) ⊎ (parts_most < length (parts c M)))))
   thirteen = (
     written-each
-        (λ (a : After). a.answer ≡ Refused R.Parts
+        (λ (a : After). a.answer ≡ Err R.Parts
         → (unwritable c M (length out) ≡ false) × ((M < length (sample c) + 9) × ((length c.string ≡ 0) ⊎ (parts_most < length (parts c M)))))
         (λ w e. absurd (omega (arith, ap written_number e))) (λ w u e. (w, (uncut-of c M).0 u)) (λ w u z e. absurd (omega (arith, ap written_number e)))
         (λ w u a b e. absurd (omega (arith, ap written_number e))),
     λ h. ap (λ (a : After). a.answer) (sym (returns-13 c M k out h.0 ((uncut-of c M).1 h.1))),
   )
 
-  pub fourteen : Exactly ((written c M k out).answer ≡ Refused R.Payload)
+  pub fourteen : Exactly ((written c M k out).answer ≡ Err R.Payload)
       ((unwritable c M (length out) ≡ false) × ((uncut c M ≡ false) × ((k ≡ 0) ⊎ (count c M < k))))
   fourteen = (
     written-each
-        (λ (a : After). a.answer ≡ Refused R.Payload → (unwritable c M (length out) ≡ false) × ((uncut c M ≡ false) × ((k ≡ 0) ⊎ (count c M < k))))
+        (λ (a : After). a.answer ≡ Err R.Payload → (unwritable c M (length out) ≡ false) × ((uncut c M ≡ false) × ((k ≡ 0) ⊎ (count c M < k))))
         (λ w e. absurd (omega (arith, ap written_number e))) (λ w u e. absurd (omega (arith, ap written_number e))) (λ w u z e. (w, (u, z)))
         (λ w u a b e. absurd (omega (arith, ap written_number e))),
     λ h. ap (λ (a : After). a.answer)
@@ -106,8 +106,8 @@ module _ (c : Caption) (M k : ℕ) (out : List ℕ) where
   )
 
 -- the count does not depend on the payload that is asked for, nor on the output
-pub same_count : (c : Caption) (M k k' : ℕ) (out out' : List ℕ) (len len' n n' : ℕ) → (written c M k out).answer ≡ Payload len n
-    → (written c M k' out').answer ≡ Payload len' n' → n ≡ n'
+pub same_count : (c : Caption) (M k k' : ℕ) (out out' : List ℕ) (len len' n n' : ℕ) → (written c M k out).answer ≡ packed len n
+    → (written c M k' out').answer ≡ packed len' n' → n ≡ n'
 same_count c M k k' out out' len len' n n' e e' = (payload-written c M k out len n e).total ∙ sym (payload-written c M k' out' len' n' e').total
 
 pub describable : (SIDX n M room : ℕ) → undescribed SIDX n M room ≡ false → Describable SIDX n M room
@@ -129,11 +129,11 @@ describable SIDX n M room h =
     }
 
 module _ (SIDX : ℕ) (d : List ℕ) (M k : ℕ) (out : List ℕ) where
-  described-each : (P : After → Type 0) → (undescribed SIDX (length d) M (length out) ≡ true → P (after (Refused R.Writer) out))
-      → (undescribed SIDX (length d) M (length out) ≡ false → M < length d + 4 → P (after (Refused R.Parts) out))
-      → (undescribed SIDX (length d) M (length out) ≡ false → length d + 4 ≤ M → (k ≡ 1 → ⊥) → P (after (Refused R.Payload) out))
+  described-each : (P : After → Type 0) → (undescribed SIDX (length d) M (length out) ≡ true → P (after (Err R.Writer) out))
+      → (undescribed SIDX (length d) M (length out) ≡ false → M < length d + 4 → P (after (Err R.Parts) out))
+      → (undescribed SIDX (length d) M (length out) ≡ false → length d + 4 ≤ M → (k ≡ 1 → ⊥) → P (after (Err R.Payload) out))
       → (undescribed SIDX (length d) M (length out) ≡ false → length d + 4 ≤ M → k ≡ 1
-      → P (after (Payload (length d + 4) 1) (sets out 0 (bytes_of (description SIDX (length d)) d))))
+      → P (after (packed (length d + 4) 1) (sets out 0 (bytes_of (description SIDX (length d)) d))))
       → P (described SIDX d M k out)
   unfolding described
   described-each P row-12 row-13 row-14 row-payload =
@@ -141,17 +141,17 @@ module _ (SIDX : ℕ) (d : List ℕ) (M k : ℕ) (out : List ℕ) where
       (λ w. each P _ _ _ (λ l. row-13 w (lt_of _ _ l))
       (λ l. each P _ _ _ (λ z. row-payload w (ge-of _ _ l) (eq_of _ _ z)) (λ z. row-14 w (ge-of _ _ l) (ne_of _ _ z))))
 
-  pub described-written : (len N : ℕ) → (described SIDX d M k out).answer ≡ Payload len N
+  pub described-written : (len N : ℕ) → (described SIDX d M k out).answer ≡ packed len N
       → DescriptionWritten SIDX d M k out (described SIDX d M k out).out len N
   described-written len N =
-      described-each (λ (a : After). a.answer ≡ Payload len N → DescriptionWritten SIDX d M k out a.out len N)
+      described-each (λ (a : After). a.answer ≡ packed len N → DescriptionWritten SIDX d M k out a.out len N)
       (λ w e. absurd (omega (arith, ap written_number e))) (λ w l e. absurd (omega (arith, ap written_number e)))
       (λ w l z e. absurd (omega (arith, ap written_number e)))
       (λ w l z e.
       let v = describable SIDX (length d) M (length out) w in
       let b = bytes_of (description SIDX (length d)) d in
-      let s : length d + 4 ≡ len = cc in
-      let n : ◌≡◌ {A = ℕ} 1 N = cc in
+      let s : length d + 4 ≡ len = packed-len e in
+      let n : ◌≡◌ {A = ℕ} 1 N = packed-count e in
       let t : length b ≡ len = omega arith in
       record {
         first = z;
@@ -163,28 +163,28 @@ module _ (SIDX : ℕ) (d : List ℕ) (M k : ℕ) (out : List ℕ) where
       })
 
   -- each refusal exactly
-  pub described-twelve : Exactly ((described SIDX d M k out).answer ≡ Refused R.Writer) (undescribed SIDX (length d) M (length out) ≡ true)
+  pub described-twelve : Exactly ((described SIDX d M k out).answer ≡ Err R.Writer) (undescribed SIDX (length d) M (length out) ≡ true)
   described-twelve = (
-    described-each (λ (a : After). a.answer ≡ Refused R.Writer → undescribed SIDX (length d) M (length out) ≡ true) (λ w e. w)
+    described-each (λ (a : After). a.answer ≡ Err R.Writer → undescribed SIDX (length d) M (length out) ≡ true) (λ w e. w)
         (λ w l e. absurd (omega (arith, ap written_number e))) (λ w l z e. absurd (omega (arith, ap written_number e)))
         (λ w l z e. absurd (omega (arith, ap written_number e))),
     λ w. ap (λ (a : After). a.answer) (sym (described-12 SIDX d M k out w)),
   )
 
-  pub described-thirteen : Exactly ((described SIDX d M k out).answer ≡ Refused R.Parts)
+  pub described-thirteen : Exactly ((described SIDX d M k out).answer ≡ Err R.Parts)
       ((undescribed SIDX (length d) M (length out) ≡ false) × (M < length d + 4))
   described-thirteen = (
-    described-each (λ (a : After). a.answer ≡ Refused R.Parts → (undescribed SIDX (length d) M (length out) ≡ false) × (M < length d + 4))
+    described-each (λ (a : After). a.answer ≡ Err R.Parts → (undescribed SIDX (length d) M (length out) ≡ false) × (M < length d + 4))
         (λ w e. absurd (omega (arith, ap written_number e))) (λ w l e. (w, l)) (λ w l z e. absurd (omega (arith, ap written_number e)))
         (λ w l z e. absurd (omega (arith, ap written_number e))),
     λ h. ap (λ (a : After). a.answer) (sym (described-13 SIDX d M k out h.0 h.1)),
   )
 
-  pub described-fourteen : Exactly ((described SIDX d M k out).answer ≡ Refused R.Payload)
+  pub described-fourteen : Exactly ((described SIDX d M k out).answer ≡ Err R.Payload)
       ((undescribed SIDX (length d) M (length out) ≡ false) × ((length d + 4 ≤ M) × (k ≡ 1 → ⊥)))
   described-fourteen = (
     described-each
-        (λ (a : After). a.answer ≡ Refused R.Payload → (undescribed SIDX (length d) M (length out) ≡ false) × ((length d + 4 ≤ M) × (k ≡ 1 → ⊥)))
+        (λ (a : After). a.answer ≡ Err R.Payload → (undescribed SIDX (length d) M (length out) ≡ false) × ((length d + 4 ≤ M) × (k ≡ 1 → ⊥)))
         (λ w e. absurd (omega (arith, ap written_number e))) (λ w l e. absurd (omega (arith, ap written_number e))) (λ w l z e. (w, (l, z)))
         (λ w l z e. absurd (omega (arith, ap written_number e))),
     λ h. ap (λ (a : After). a.answer) (sym (described-14 SIDX d M k out h.0 h.1.0 h.1.1)),

@@ -1,5 +1,6 @@
 -- The returns of the writer for a sample that is cut, in the code's own values. Assumes nothing.
-use Rattle.std.specs.Prelude.{ℕ, ◌+◌, ◌-◌, ◌*◌, ◌/◌, ◌≤◌, ◌<◌, ◌≡◌, true, false, length, get_or}
+use Rattle.writer.specs.Written.{packed}
+use Rattle.std.specs.Prelude.{ℕ, ◌+◌, ◌-◌, ◌*◌, ◌/◌, ◌≤◌, ◌<◌, ◌≡◌, true, false, length, get_or, Err}
 use Rattle.std.proofs.Common.{arith, sym, ap, ◌∙◌, length-append}
 use mathlib.Core.List.{List, [], flatten, append-nil}
 use Rattle.laws.specs.Region.{part}
@@ -20,7 +21,6 @@ use Rattle.writer.specs.Write.{Caption, long, parts, part_unit, unwritable, uncu
 use Rattle.writer.specs.Returns.{block_type, PutDown}
 use Rattle.writer.proofs.Returns.{block_type-not, parts-count, string-at, block_of, writable, returns-13, returns-none, returns-14, returns-payload, cut-count, uncut-empty, uncut-parts, cuttable, cut-unit, cut-data, string-unit, block-unit}
 use Rattle.writer.specs.declared.PartFound.{PartFound}
-use Rattle.writer.specs.declared.Written.TheVariants.{Payload, Refused}
 use Rattle.writer.specs.Cuts.{Counted}
 
 -- the string's parts, one after the other, are the string: each boundary leaves a well-formed string, and a character always fits
@@ -34,7 +34,7 @@ strings-count U n k s f q = ap (λ (x : PartFound). x.count) q ∙ sought-count 
 
 -- ---- counting the parts: b is how many blocks the modifiers make
 module _ (c : Caption) (M k : ℕ) (out : List ℕ) (w : unwritable c M (length out) ≡ false) (l : long c M ≡ true) where
-  pub cut-empty : length c.string ≡ 0 → after (Refused R.Parts) out ≡ written c M k out
+  pub cut-empty : length c.string ≡ 0 → after (Err R.Parts) out ≡ written c M k out
   cut-empty h = returns-13 c M k out w (uncut-empty c M l h)
 
   module _ (h : length c.string ≡ 0 → ⊥) (f : PartFound) (q : f ≡ sought k 0 (found 0 0 0) (strings c.U (M - 10) c.string))
@@ -45,7 +45,7 @@ module _ (c : Caption) (M k : ℕ) (out : List ℕ) (w : unwritable c M (length 
         let m : length (blocks (M - 7) c.modifiers) ≡ b = blocks-count (M - 7) (omega (arith, v.least)) c.modifiers ∙ sym r in
         omega (arith, strings-count c.U (M - 10) k c.string f q, parts-count c M)
 
-    pub cut-many : parts_most < f.count + b → after (Refused R.Parts) out ≡ written c M k out
+    pub cut-many : parts_most < f.count + b → after (Err R.Parts) out ≡ written c M k out
     cut-many m = returns-13 c M k out w (uncut-parts c M l h (omega (arith, total-is)))
 
     pub counted : f.count + b ≤ parts_most → Counted c M k out f (f.count + b)
@@ -56,16 +56,16 @@ module _ (c : Caption) (M k : ℕ) (out : List ℕ) (f : PartFound) (n : ℕ) (p
   not-uncut : uncut c M ≡ false
   not-uncut = cuttable c M p.cut p.some (omega (arith, p.total, p.few))
 
-  pub cut-none : k ≡ 0 → after (Refused R.Payload) out ≡ written c M k out
+  pub cut-none : k ≡ 0 → after (Err R.Payload) out ≡ written c M k out
   cut-none z = returns-none c M k out p.allowed not-uncut z
 
   module _ (some : 0 < k) where
-    pub cut-past : n < k → after (Refused R.Payload) out ≡ written c M k out
+    pub cut-past : n < k → after (Err R.Payload) out ≡ written c M k out
     cut-past m = returns-14 c M k out p.allowed not-uncut some (omega (arith, p.total, cut-count c M p.cut))
 
     -- payload number k is part number k - 1 from 0, of TYPE ty with data d
     numbered : k ≤ n → (ty : ℕ) (d : List ℕ) → get_or (parts c M) (k - 1) (piece 2 []) ≡ piece ty d → (x : Unit) → x ≡ part_unit c n k (piece ty d)
-        → (len : ℕ) (o : List ℕ) → PutDown len o out x d → after (Payload len n) o ≡ written c M k out
+        → (len : ℕ) (o : List ℕ) → PutDown len o out x d → after (packed len n) o ≡ written c M k out
     numbered m ty d g x e len o y =
         returns-payload c M k out p.allowed not-uncut some n (p.total ∙ sym (cut-count c M p.cut)) m
         x (e ∙ sym (cut-unit c M p.cut k ∙ rw (g, ← p.total)))
@@ -76,7 +76,7 @@ module _ (c : Caption) (M k : ℕ) (out : List ℕ) (f : PartFound) (n : ℕ) (p
         → PutDown len o out
         (Part (string_part c.U n k c.SDUR c.SIDX (length c.string + length c.modifiers) (length (found_in f c.string))))
         (found_in f c.string)
-        → after (Payload len n) o ≡ written c M k out
+        → after (packed len n) o ≡ written c M k out
     cut-string l m len o y =
         let v = writable c M (length out) p.allowed in
         let ss = strings c.U (M - 10) c.string in
@@ -92,7 +92,7 @@ module _ (c : Caption) (M k : ℕ) (out : List ℕ) (f : PartFound) (n : ℕ) (p
     pub cut-block : k ≤ n → f.count < k → (j : ℕ) → j ≡ k - f.count - 1 → (len : ℕ) (o : List ℕ)
         → PutDown len o out (Part (modifiers_part (block_type j) n k c.SDUR (length (part (j * (M - 7)) (M - 7) c.modifiers))))
         (part (j * (M - 7)) (M - 7) c.modifiers)
-        → after (Payload len n) o ≡ written c M k out
+        → after (packed len n) o ≡ written c M k out
     cut-block l m j i len o y =
         let v = writable c M (length out) p.allowed in
         let bs = blocks (M - 7) c.modifiers in

@@ -1,5 +1,6 @@
 -- One law for each way the writer returns, in the code's own values. Assumes nothing.
-use Rattle.std.specs.Prelude.{ℕ, zero, suc, ◌+◌, ◌-◌, ◌≤◌, ◌<◌, ◌≡◌, true, false}
+use Rattle.writer.specs.Written.{packed}
+use Rattle.std.specs.Prelude.{ℕ, zero, suc, ◌+◌, ◌-◌, ◌≤◌, ◌<◌, ◌≡◌, true, false, Err}
 use Rattle.std.proofs.Common.{arith, ◌∙◌}
 use Rattle.std.proofs.Math.Path.{refl, sym, ap}
 use mathlib.Core.List.{List, [], ◌∷◌, ◌++◌, map, append_assoc}
@@ -20,7 +21,6 @@ use Rattle.unit.specs.Head.{head_of}
 use Rattle.unit.specs.Again.{bytes_of}
 use Rattle.writer.specs.Cut.{strings, blocks, modified, pieces}
 use Rattle.writer.specs.Write.{Caption, sample, long, parts, count, part_unit, whole_unit, payload_data, payload_unit, unsized, ill_formed, unwritable, uncut, undescribed, after, written, described}
-use Rattle.writer.specs.declared.Written.TheVariants.{Payload, Refused}
 use Rattle.writer.specs.Returns.{block_type, Writable, PutDown}
 
 -- ---- the parts of a sample by their number from 0
@@ -102,27 +102,27 @@ lay-more x s m before mid now n l e =
 
 -- ---- the returns
 module _ (c : Caption) (M k : ℕ) (out : List ℕ) where
-  pub returns-12 : unwritable c M (length out) ≡ true → after (Refused R.Writer) out ≡ written c M k out
+  pub returns-12 : unwritable c M (length out) ≡ true → after (Err R.Writer) out ≡ written c M k out
   unfolding written
   returns-12 h = yes _ _ h refl
 
   module _ (w : unwritable c M (length out) ≡ false) where
-    pub returns-13 : uncut c M ≡ true → after (Refused R.Parts) out ≡ written c M k out
+    pub returns-13 : uncut c M ≡ true → after (Err R.Parts) out ≡ written c M k out
     unfolding written
     returns-13 h = no _ _ w (yes _ _ h refl)
 
     module _ (u : uncut c M ≡ false) where
-      pub returns-none : k ≡ 0 → after (Refused R.Payload) out ≡ written c M k out
+      pub returns-none : k ≡ 0 → after (Err R.Payload) out ≡ written c M k out
       unfolding written
       returns-none h = no _ _ w (no _ _ u (yes _ _ (eq _ _ h) refl))
 
-      pub returns-14 : 0 < k → count c M < k → after (Refused R.Payload) out ≡ written c M k out
+      pub returns-14 : 0 < k → count c M < k → after (Err R.Payload) out ≡ written c M k out
       unfolding written
       returns-14 h l = no _ _ w (no _ _ u (no _ _ (ne _ _ (λ q. omega arith)) (yes _ _ (lt _ _ l) refl)))
 
       -- payload number k: its unit x and data d, n payloads in all
       pub returns-payload : 0 < k → (n : ℕ) → n ≡ count c M → k ≤ n → (x : Unit) → x ≡ payload_unit c M k → (d : List ℕ) → d ≡ payload_data c M k
-          → (len : ℕ) → len ≡ length (bytes_of x d) → (o : List ℕ) → o ≡ sets out 0 (bytes_of x d) → after (Payload len n) o ≡ written c M k out
+          → (len : ℕ) → len ≡ length (bytes_of x d) → (o : List ℕ) → o ≡ sets out 0 (bytes_of x d) → after (packed len n) o ≡ written c M k out
       unfolding written
       returns-payload h n en l x ex d ed len el o eo =
           no _ _ w
@@ -200,21 +200,21 @@ long-no c M h = ge _ _ (omega (arith, length-append c.string c.modifiers))
 
 -- ---- a description
 module _ (SIDX : ℕ) (d : List ℕ) (M k : ℕ) (out : List ℕ) where
-  pub described-12 : undescribed SIDX (length d) M (length out) ≡ true → after (Refused R.Writer) out ≡ described SIDX d M k out
+  pub described-12 : undescribed SIDX (length d) M (length out) ≡ true → after (Err R.Writer) out ≡ described SIDX d M k out
   unfolding described
   described-12 h = yes _ _ h refl
 
   module _ (w : undescribed SIDX (length d) M (length out) ≡ false) where
-    pub described-13 : M < length d + 4 → after (Refused R.Parts) out ≡ described SIDX d M k out
+    pub described-13 : M < length d + 4 → after (Err R.Parts) out ≡ described SIDX d M k out
     unfolding described
     described-13 h = no _ _ w (yes _ _ (lt _ _ h) refl)
 
     module _ (m : length d + 4 ≤ M) where
-      pub described-14 : (k ≡ 1 → ⊥) → after (Refused R.Payload) out ≡ described SIDX d M k out
+      pub described-14 : (k ≡ 1 → ⊥) → after (Err R.Payload) out ≡ described SIDX d M k out
       unfolding described
       described-14 h = no _ _ w (no _ _ (ge _ _ m) (no _ _ (ne _ _ h) refl))
 
-      pub described-payload : k ≡ 1 → (len : ℕ) (o : List ℕ) → PutDown len o out (description SIDX (length d)) d → after (Payload len 1) o ≡ described SIDX d M k out
+      pub described-payload : k ≡ 1 → (len : ℕ) (o : List ℕ) → PutDown len o out (description SIDX (length d)) d → after (packed len 1) o ≡ described SIDX d M k out
       unfolding described
       described-payload h len o y =
           let z : len ≡ length d + 4 = omega (arith, y.size) in

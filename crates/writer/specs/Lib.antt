@@ -1,3 +1,4 @@
+pub mod Written
 pub mod Cut
 pub mod Find
 pub mod Write

@@ -1,6 +1,7 @@
 -- What the writer answers and what it leaves in the output: document 01, 'Writing and boxes' and refusals 12 to 14.
 -- Assumes nothing.
-use Rattle.std.specs.Prelude.{ℕ, ◌+◌, ◌-◌, Bool, not, List, [], ◌∷◌, ◌++◌, length, get_or}
+use Rattle.writer.specs.Written.{packed}
+use Rattle.std.specs.Prelude.{ℕ, ◌+◌, ◌-◌, Bool, not, List, [], ◌∷◌, ◌++◌, length, get_or, Err, Ok}
 use Rattle.std.proofs.lemmas.List.Edits.{sets}
 use Rattle.laws.specs.Rows.{◌⇒◌⁏◌, ◌or◌, ◌and◌, ◌<?◌, ◌=?◌}
 use Rattle.paper.specs.Limits.{sample_most, description_most, parts_most, in_band, reserved, size_least, size_most, durations}
@@ -13,17 +14,16 @@ use Rattle.unit.specs.Layout.{whole, string_part, modifiers_part, description}
 use Rattle.unit.specs.Again.{bytes_of}
 use Rattle.joining.specs.Joining.{Piece, piece}
 use Rattle.writer.specs.Cut.{pieces}
-use Rattle.writer.specs.declared.Written.{Written}
-use Rattle.writer.specs.declared.Written.TheVariants.{Payload, Refused}
+use Rattle.writer.specs.Written.{Written}
 
 -- ---- the answer: its number, 0 for a payload, and the values that go with it, length and how many payloads there are
 abbrev pub written_number : Written → ℕ
-written_number (Payload len count) = 0
-written_number (Refused r) = number_of r
+written_number (Ok p) = 0
+written_number (Err r) = number_of r
 
 abbrev pub written_values : Written → List ℕ
-written_values (Payload len count) = len ∷ count ∷ []
-written_values (Refused r) = []
+written_values (Ok p) = p.len ∷ p.count ∷ []
+written_values (Err r) = []
 
 -- what is to be sent
 pub record Caption : Type 0 where
@@ -100,11 +100,11 @@ after r out = record { answer = r; out = out }
 
 unfoldable pub written : Caption → (M k : ℕ) → List ℕ → After
 written c M k out =
-    unwritable c M (length out) ⇒ after (Refused R.Writer) out
-    ⁏ uncut c M ⇒ after (Refused R.Parts) out
-    ⁏ k =? 0 ⇒ after (Refused R.Payload) out
-    ⁏ count c M <? k ⇒ after (Refused R.Payload) out
-    ⁏ after (Payload (length (payload c M k)) (count c M)) (sets out 0 (payload c M k))
+    unwritable c M (length out) ⇒ after (Err R.Writer) out
+    ⁏ uncut c M ⇒ after (Err R.Parts) out
+    ⁏ k =? 0 ⇒ after (Err R.Payload) out
+    ⁏ count c M <? k ⇒ after (Err R.Payload) out
+    ⁏ after (packed (length (payload c M k)) (count c M)) (sets out 0 (payload c M k))
 
 -- ---- a description d of n bytes is one TYPE 5 payload
 unfoldable pub undescribed : (SIDX n M room : ℕ) → Bool
@@ -112,7 +112,7 @@ undescribed SIDX n M room = in_band - 1 <? SIDX or n =? 0 or description_most <?
 
 unfoldable pub described : (SIDX : ℕ) (d : List ℕ) (M k : ℕ) → List ℕ → After
 described SIDX d M k out =
-    undescribed SIDX (length d) M (length out) ⇒ after (Refused R.Writer) out
-    ⁏ M <? length d + 4 ⇒ after (Refused R.Parts) out
-    ⁏ k =? 1 ⇒ after (Payload (length d + 4) 1) (sets out 0 (bytes_of (description SIDX (length d)) d))
-    ⁏ after (Refused R.Payload) out
+    undescribed SIDX (length d) M (length out) ⇒ after (Err R.Writer) out
+    ⁏ M <? length d + 4 ⇒ after (Err R.Parts) out
+    ⁏ k =? 1 ⇒ after (packed (length d + 4) 1) (sets out 0 (bytes_of (description SIDX (length d)) d))
+    ⁏ after (Err R.Payload) out

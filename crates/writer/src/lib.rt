@@ -2,13 +2,11 @@
 // `writes` and `describes`.
 #![tactic(auto)]
 
-use paper::Refusal;
-
-// A payload's length and how many payloads there are; or the refusal.
+// A payload's length, and how many payloads there are.
 #[derive(Clone, Copy)]
-pub enum Written {
-    Payload { len: usize, count: usize },
-    Refused(Refusal),
+pub struct Payload {
+    pub len: usize,
+    pub count: usize,
 }
 
 // How many string parts were passed, and from where to where the wanted one goes.

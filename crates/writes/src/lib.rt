@@ -5,7 +5,7 @@ ghost use Rattle.std.specs.Prelude.{◌≡◌};
 ghost use Rattle.writer.specs.Write.{caption, after, written};
 
 use paper::Refusal;
-use writer::Written;
+use writer::Payload;
 
 // Writes payload `number` of a sample for the size limit m.
 pub fn write_sample(
@@ -17,22 +17,22 @@ pub fn write_sample(
     m: usize,
     number: usize,
     out: &mut [u8],
-) -> Written
+) -> Result<Payload, Refusal>
     ensures { after result out.new
         ≡ written (caption u sidx sdur string.now modifiers.now) m number out.old }
 {
     if allows::is_unwritable(u, sidx, sdur, string, modifiers, m, out.len()) {
-        return Written::Refused(Refusal::Writer);
+        return Err(Refusal::Writer);
     }
     if m < string.len() + modifiers.len() + 9 {
         return cuts::write_cut(u, sidx, sdur, string, modifiers, m, number, out);
     }
     if number == 0 {
-        return Written::Refused(Refusal::Payload);
+        return Err(Refusal::Payload);
     }
     if 1 < number {
-        return Written::Refused(Refusal::Payload);
+        return Err(Refusal::Payload);
     }
     let len = lays::write_whole(u, sidx, sdur, string, modifiers, out);
-    Written::Payload { len, count: 1 }
+    Ok(Payload { len, count: 1 })
 }

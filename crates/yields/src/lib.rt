@@ -6,8 +6,6 @@ ghost use Rattle.laws.specs.Rows.{◌<?◌};
 ghost use Rattle.sample.specs.declared.Place.{Place};
 ghost use Rattle.steps.specs.Plan.{plan, pass_planned, yield, yielding, place_after};
 
-use desk::GivenUp;
-use gate::Gate;
 use paper::limits::{FINISHED_MOST, HEAD_SIZE, MARKS_EACH, STORE_SIZE};
 use paper::{Answer, Name, Outcome, Refusal, Sender};
 use unit::Reading;
@@ -33,8 +31,8 @@ pub fn pass_step(
     let t = who.time;
     let g = gate::gate_of(n, table, rows, marks, stores.len(), who.desk, out);
     match g {
-        Gate::Shut(why) => asks::says(0, t, Outcome::Refused(why)),
-        Gate::Through => {
+        Err(why) => asks::says(0, t, Outcome::Refused(why)),
+        Ok(()) => {
             let row = FINISHED_MOST * who.desk;
             let mark = HEAD_SIZE + MARKS_EACH * who.desk;
             let store = STORE_SIZE * who.desk;
@@ -60,17 +58,17 @@ pub fn yield_step(
     rows: &mut [u32],
     marks: &mut [u32],
     who: Name,
-) -> GivenUp
+) -> Result<(), Refusal>
     ensures { (p : Place) → p.used ≡ (at <? m)
         → yield (place_after result p) result rows.new marks.new
         ≡ yielding table p rows.old marks.old who }
 {
     let n = gate::desks_of(marks);
     if gate::is_stranger(n, who.desk) {
-        return GivenUp::Refused(Refusal::Desk);
+        return Err(Refusal::Desk);
     }
     if gate::lacks_three(n, table, rows.len(), marks.len()) {
-        return GivenUp::Refused(Refusal::Desk);
+        return Err(Refusal::Desk);
     }
     let row = FINISHED_MOST * who.desk;
     let mark = HEAD_SIZE + MARKS_EACH * who.desk;

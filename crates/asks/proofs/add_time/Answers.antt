@@ -1,7 +1,7 @@
 -- `asks::add_time` meets its contract: SDUR is added, and SDUR 0 makes the time unknown. Assumes nothing.
+use Rattle.std.specs.Prelude.{Some}
 use Rattle.std.proofs.Common.{refl, ap, arith}
 use Rattle.laws.specs.Rows.{yes, no, eq, ne}
-use Rattle.paper.specs.declared.Time.TheVariants.{Known}
 use Rattle.desk.specs.Desk.{later}
 use Rattle.asks.proofs.add_time.Goals as goal
 
@@ -11,4 +11,4 @@ returns-then-sdur-eq0 c = yes _ _ (eq _ _ (omega arith)) refl
 
 pub returns : goal.returns
 unfolding later
-returns c = no _ _ (ne _ _ c.if-sdur-eq0.false) (ap Known (omega arith))
+returns c = no _ _ (ne _ _ c.if-sdur-eq0.false) (ap Some (omega arith))

@@ -8,8 +8,8 @@ use Rattle.begins.specs.Begins.{new-cleared, laid_none, laid-new, used-new, open
 use Rattle.asks.specs.Asked.{told_of}
 use Rattle.begins.proofs.open.Goals as goal
 
-pub returns-in-Refused : goal.returns-in-Refused
-returns-in-Refused c = λ store out.
+pub returns-in-Err : goal.returns-in-Err
+returns-in-Err c = λ store out.
     let a = c.args in
     let row = a.row.now in
     let marks = a.marks.now in
@@ -20,12 +20,12 @@ returns-in-Refused c = λ store out.
     let before = whole a.q a.kinds.now a.starts.now a.lens.now a.bytes.now in
     let not = opens_not a.h row marks store out a.desk a.time used next x d
     _ c.opened-new.ensures _ _ c.is_late-late.ensures c.oversize.ensures _ c.find_bar-bar.ensures
-    _ c.in-Refused.is in
+    _ c.in-Err.is in
     ap (λ (t : Turn). left t row marks store out) (told_of _ _ _ _ _ _ _ _ _ c.said.ensures)
     ∙ laid_none before c.requires.0 _ row marks store out _ not
 
-pub returns-in-Free : goal.returns-in-Free
-returns-in-Free c = λ store out.
+pub returns-in-Ok : goal.returns-in-Ok
+returns-in-Ok c = λ store out.
     let a = c.args in
     let row = a.row.now in
     let marks = a.marks.now in
@@ -40,6 +40,6 @@ returns-in-Free c = λ store out.
     let is = c.keep-k.ensures ∙ ap (λ (p : Place). kept p x d) empty in
     let new = opens_kept a.h row marks store out a.desk a.time used next x d
     _ c.opened-new.ensures _ _ c.is_late-late.ensures c.oversize.ensures _ c.find_bar-bar.ensures
-    c.in-Free.is pre.1 _ _ _ _ _ is _ c.missing.ensures in
-    ap (λ (t : Turn). left t row marks store out) (told_of _ _ _ _ _ _ _ _ _ c.said-in-Free.ensures)
+    c.in-Ok.is pre.1 _ _ _ _ _ is _ c.missing.ensures in
+    ap (λ (t : Turn). left t row marks store out) (told_of _ _ _ _ _ _ _ _ _ c.said-in-Ok.ensures)
     ∙ laid-new before pre.0 _ row marks store out _ _ (ap (λ (p : Place). p.used) is ∙ used-new a.desk a.time x d) new

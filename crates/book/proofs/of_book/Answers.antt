@@ -1,8 +1,8 @@
 -- `book::of_book` meets its contract: a good book is looked through. Assumes nothing.
 use Rattle.book.proofs.of_book.Goals as goal
 
-pub returns-in-Good : goal.returns-in-Good
-returns-in-Good c = rw (← c.in-Good.ensures) c.entry.ensures
+pub returns-in-Ok : goal.returns-in-Ok
+returns-in-Ok c = rw (← c.in-Ok.ensures) c.entry.ensures
 
-pub returns-in-Refused : goal.returns-in-Refused
-returns-in-Refused c = rw (← c.in-Refused.ensures) c.cut.ensures
+pub returns-in-Err : goal.returns-in-Err
+returns-in-Err c = rw (← c.in-Err.ensures) c.cut.ensures

@@ -2,6 +2,6 @@
 use Rattle.laws.specs.Rows.{◌=?◌}
 use Rattle.finds.proofs.bears.Goals as goal
 
-pub returns-in-Known : goal.returns-in-Known
+pub returns-in-Some : goal.returns-in-Some
 unfolding ◌=?◌
-returns-in-Known c = rw c.in-Known.is
+returns-in-Some c = rw c.in-Some.is

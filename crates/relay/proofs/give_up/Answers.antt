@@ -6,7 +6,7 @@ use Rattle.paper.specs.declared.Name.{Name}
 use Rattle.paper.specs.declared.Sender.{Sender}
 use Rattle.sample.specs.declared.Place.{Place}
 use Rattle.sample.specs.Place.{closed}
-use Rattle.desk.specs.declared.GivenUp.{GivenUp}
+use Rattle.desk.specs.GivenUp.{GivenUp}
 use Rattle.table.specs.Table.{stored}
 use Rattle.memory.specs.Table.{is_at}
 use Rattle.memory.specs.Relay.{Tables, tables, desks_of, released, given_up_at}

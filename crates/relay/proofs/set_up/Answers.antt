@@ -3,7 +3,7 @@ use Rattle.std.proofs.Common.{ℕ, ◌≤◌, ◌≡◌, List, length, sym, ap, 
 use Rattle.paper.specs.Limits.{desks_most}
 use Rattle.sample.specs.declared.Place.{Place}
 use Rattle.table.specs.Table.{cleared}
-use Rattle.memory.specs.declared.Started.{Started}
+use Rattle.memory.specs.Started.{Started}
 use Rattle.memory.specs.Relay.{tables, prepared}
 use Rattle.fresh.specs.Fresh.{fitting}
 use Rattle.fresh.specs.Start.{made_of, fitting-most, set-up-is}

@@ -11,45 +11,45 @@ use Rattle.steps.specs.Steps.{room, step-shut, step_through}
 use Rattle.takes.proofs.step.Goals as goal
 
 pub shares-h-requires : goal.shares-h-requires
-shares-h-requires c = desk-few (room c.args.marks.now _ _ _ _ _ _ _ c.gate_of-g.ensures c.desks_of-n.ensures c.in-Through.is).0
+shares-h-requires c = desk-few (room c.args.marks.now _ _ _ _ _ _ _ c.gate_of-g.ensures c.desks_of-n.ensures c.in-Ok.is).0
 
 pub overflow_mul-row : goal.overflow_mul-row
-overflow_mul-row c = record { fits = row-start (room c.args.marks.now _ _ _ _ _ _ _ c.gate_of-g.ensures c.desks_of-n.ensures c.in-Through.is).0 }
+overflow_mul-row c = record { fits = row-start (room c.args.marks.now _ _ _ _ _ _ _ c.gate_of-g.ensures c.desks_of-n.ensures c.in-Ok.is).0 }
 
 pub overflow_mul-mark : goal.overflow_mul-mark
-overflow_mul-mark c = record { fits = mark-each (room c.args.marks.now _ _ _ _ _ _ _ c.gate_of-g.ensures c.desks_of-n.ensures c.in-Through.is).0 }
+overflow_mul-mark c = record { fits = mark-each (room c.args.marks.now _ _ _ _ _ _ _ c.gate_of-g.ensures c.desks_of-n.ensures c.in-Ok.is).0 }
 
 pub overflow_add-mark : goal.overflow_add-mark
-overflow_add-mark c = record { fits = mark-start (room c.args.marks.now _ _ _ _ _ _ _ c.gate_of-g.ensures c.desks_of-n.ensures c.in-Through.is).0 }
+overflow_add-mark c = record { fits = mark-start (room c.args.marks.now _ _ _ _ _ _ _ c.gate_of-g.ensures c.desks_of-n.ensures c.in-Ok.is).0 }
 
 pub overflow_add-row : goal.overflow_add-row
-overflow_add-row c = record { fits = row-end (room c.args.marks.now _ _ _ _ _ _ _ c.gate_of-g.ensures c.desks_of-n.ensures c.in-Through.is).0 }
+overflow_add-row c = record { fits = row-end (room c.args.marks.now _ _ _ _ _ _ _ c.gate_of-g.ensures c.desks_of-n.ensures c.in-Ok.is).0 }
 
 pub offset_bounds-rows-row : goal.offset_bounds-rows-row
-offset_bounds-rows-row c = record { fits = row-byte (room c.args.marks.now _ _ _ _ _ _ _ c.gate_of-g.ensures c.desks_of-n.ensures c.in-Through.is).0 }
+offset_bounds-rows-row c = record { fits = row-byte (room c.args.marks.now _ _ _ _ _ _ _ c.gate_of-g.ensures c.desks_of-n.ensures c.in-Ok.is).0 }
 
 pub slice_bounds-take_part-end : goal.slice_bounds-take_part-end
-slice_bounds-take_part-end c = omega (arith, row_within (room c.args.marks.now _ _ _ _ _ _ _ c.gate_of-g.ensures c.desks_of-n.ensures c.in-Through.is).0)
+slice_bounds-take_part-end c = omega (arith, row_within (room c.args.marks.now _ _ _ _ _ _ _ c.gate_of-g.ensures c.desks_of-n.ensures c.in-Ok.is).0)
 
-pub slice_bounds-take_part-end-in-Through : goal.slice_bounds-take_part-end-in-Through
-slice_bounds-take_part-end-in-Through c = omega (arith, mark-within (room c.args.marks.now _ _ _ _ _ _ _ c.gate_of-g.ensures c.desks_of-n.ensures c.in-Through.is).0)
+pub slice_bounds-take_part-end-in-Ok : goal.slice_bounds-take_part-end-in-Ok
+slice_bounds-take_part-end-in-Ok c = omega (arith, mark-within (room c.args.marks.now _ _ _ _ _ _ _ c.gate_of-g.ensures c.desks_of-n.ensures c.in-Ok.is).0)
 
-pub returns-in-Shut : goal.returns-in-Shut
-returns-in-Shut c = λ stores len.
+pub returns-in-Err : goal.returns-in-Err
+returns-in-Err c = λ stores len.
     let a = c.args in
     let f = gate-at _ _ _ _ _ _ _ _ _ _ c.gate_of-g.ensures c.desks_of-n.ensures len in
     let before = whole a.q a.kinds.now a.starts.now a.lens.now a.bytes.now in
     step-shut a.table before a.rows.now a.marks.now stores a.out.now a.who a.x a.rest.now _ f _
-    c.in-Shut.is _ c.says.ensures
+    c.in-Err.is _ c.says.ensures
 
-pub returns-in-Through : goal.returns-in-Through
-returns-in-Through c = λ stores len.
+pub returns-in-Ok : goal.returns-in-Ok
+returns-in-Ok c = λ stores len.
     let a = c.args in
     let f = gate-at _ _ _ _ _ _ _ _ _ _ c.gate_of-g.ensures c.desks_of-n.ensures len in
     let before = whole a.q a.kinds.now a.starts.now a.lens.now a.bytes.now in
     let h = c.shares-h.ensures ∙ ap (λ (n : ℕ). stored_shares n a.who.desk a.marks.now) c.desks_of-n.ensures in
     step_through a.table before a.rows.now a.marks.now stores a.out.now a.who a.x a.rest.now _ f
-    c.in-Through.is _ h _ _ _ _ _ _ c.cut-d.ensures (c.take_part-s.ensures (store_of a.who.desk stores)) _
+    c.in-Ok.is _ h _ _ _ _ _ _ c.cut-d.ensures (c.take_part-s.ensures (store_of a.who.desk stores)) _
     c.count.ensures
 
 pub take_part-s-requires : goal.take_part-s-requires
@@ -58,4 +58,4 @@ take_part-s-requires c =
 
 pub count-requires : goal.count-requires
 count-requires c =
-    desk-few (room c.args.marks.now _ _ _ _ _ _ _ c.gate_of-g.ensures c.desks_of-n.ensures c.in-Through.is).0
+    desk-few (room c.args.marks.now _ _ _ _ _ _ _ c.gate_of-g.ensures c.desks_of-n.ensures c.in-Ok.is).0
