@@ -27,7 +27,7 @@ fn put_values(row: &mut [u64], outcome: Outcome)
         Outcome::Joined(f) => put_facts(row, f),
         Outcome::Kept(n) => numbers::put_at(row, 4, n),
         Outcome::Skipped(t) => numbers::put_at(row, 4, t),
-        Outcome::Refused(r) => numbers::put_at(row, 4, paper::number(r)),
+        Outcome::Refused(r) => numbers::put_at(row, 4, usize::from(r)),
         Outcome::End => {}
         Outcome::Repeat => {}
         Outcome::Described => {}
@@ -57,7 +57,7 @@ pub fn put_answer(row: &mut [u64], a: Answer) -> usize
     let next = a.next;
     numbers::put_at(row, 0, a.used);
     put_time(row, next);
-    numbers::put_at(row, 3, paper::kind(outcome));
+    numbers::put_at(row, 3, outcome.kind());
     put_values(row, outcome);
     a.used
 }

@@ -13,8 +13,8 @@ pub fn put_text(out: &mut [u8], at: usize, text: &[u8]) -> usize
     ensures { page out.new result ≡ typed out.old at text.now }
 {
     octets::put(out, at, text);
-    let from = octets::least(at, out.len());
-    from + octets::least(text.len(), out.len() - from)
+    let from = at.min(out.len());
+    from + text.len().min(out.len() - from)
 }
 
 fn put_digit(out: &mut [u8], at: usize, d: usize) -> usize
@@ -54,7 +54,7 @@ fn put_outcome(out: &mut [u8], at: usize, outcome: Outcome) -> usize
         Outcome::Repeat => put_text(out, at, b"repeat"),
         Outcome::Described => put_text(out, at, b"described"),
         Outcome::Skipped(t) => put_count(out, at, b"skipped ", t),
-        Outcome::Refused(r) => put_count(out, at, b"refused ", paper::number(r)),
+        Outcome::Refused(r) => put_count(out, at, b"refused ", usize::from(r)),
     }
 }
 

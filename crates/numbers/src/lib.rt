@@ -40,7 +40,7 @@ pub fn put_checked(row: &mut [u64], c: Result<usize, BadRecord>)
 {
     match c {
         Ok(n) => put_two(row, 0, n),
-        Err(b) => put_two(row, paper::number(b.why), b.at),
+        Err(b) => put_two(row, usize::from(b.why), b.at),
     }
 }
 
@@ -49,7 +49,7 @@ pub fn put_written(row: &mut [u64], w: Result<Payload, Refusal>)
 {
     match w {
         Ok(Payload { len, count }) => put_three(row, 0, len, count),
-        Err(r) => put_at(row, 0, paper::number(r)),
+        Err(r) => put_at(row, 0, usize::from(r)),
     }
 }
 
@@ -59,7 +59,7 @@ pub fn put_stepped(row: &mut [u64], next: usize, f: Result<Option<usize>, Refusa
     match f {
         Ok(None) => put_two(row, next, 0),
         Ok(Some(t)) => put_three(row, next, 1, t),
-        Err(r) => put_three(row, next, 2, paper::number(r)),
+        Err(r) => put_three(row, next, 2, usize::from(r)),
     }
 }
 
@@ -90,7 +90,7 @@ pub fn started_number(s: Result<(), Refusal>) -> usize
 {
     match s {
         Ok(()) => 0,
-        Err(r) => paper::number(r),
+        Err(r) => usize::from(r),
     }
 }
 
@@ -99,6 +99,6 @@ pub fn given_up_number(g: Result<(), Refusal>) -> usize
 {
     match g {
         Ok(()) => 0,
-        Err(r) => paper::number(r),
+        Err(r) => usize::from(r),
     }
 }

@@ -7,7 +7,7 @@ ghost use Rattle.std.specs.Prelude.{◌≡◌};
 ghost use Rattle.paper.specs.Words.{number_of, kind_of};
 
 // Why a call is refused; `number_of` gives each its number in the paper.
-#[derive(Clone, Copy)]
+#[derive(Clone, Copy, Debug, PartialEq, Eq)]
 pub enum Refusal {
     Desk,
     Output,
@@ -33,21 +33,21 @@ pub enum Refusal {
 pub type Time = Option<u32>;
 
 // The name of a sample: its desk and its time.
-#[derive(Clone, Copy)]
+#[derive(Clone, Copy, Debug, PartialEq, Eq)]
 pub struct Name {
     pub desk: usize,
     pub time: u32,
 }
 
 // Who sends a unit: a desk, and the running time.
-#[derive(Clone, Copy)]
+#[derive(Clone, Copy, Debug, PartialEq, Eq)]
 pub struct Sender {
     pub desk: usize,
     pub time: Time,
 }
 
 // What is told of a sample that is handed out: its time, U, SIDX, SDUR, and how long its string and all of it are.
-#[derive(Clone, Copy)]
+#[derive(Clone, Copy, Debug, PartialEq, Eq)]
 pub struct Facts {
     pub time: u32,
     pub u: usize,
@@ -57,7 +57,7 @@ pub struct Facts {
     pub sample: usize,
 }
 
-#[derive(Clone, Copy)]
+#[derive(Clone, Copy, Debug, PartialEq, Eq)]
 pub enum Outcome {
     End,
     Whole(Facts),
@@ -72,49 +72,55 @@ pub enum Outcome {
 }
 
 // What a call answers: the bytes used, the next running time, the outcome.
-#[derive(Clone, Copy)]
+#[derive(Clone, Copy, Debug, PartialEq, Eq)]
 pub struct Answer {
     pub used: usize,
     pub next: Time,
     pub outcome: Outcome,
 }
 
-pub fn number(r: Refusal) -> usize
-    ensures { result ≡ number_of r }
-{
-    match r {
-        Refusal::Desk => 1,
-        Refusal::Output => 2,
-        Refusal::Frame => 3,
-        Refusal::Fields => 4,
-        Refusal::Size => 5,
-        Refusal::Late => 6,
-        Refusal::Conflict => 7,
-        Refusal::Six => 8,
-        Refusal::Common => 9,
-        Refusal::Spoiled => 10,
-        Refusal::NotOpen => 11,
-        Refusal::Writer => 12,
-        Refusal::Parts => 13,
-        Refusal::Payload => 14,
-        Refusal::Box => 15,
-        Refusal::Book => 16,
-        Refusal::IllFormed => 17,
-        Refusal::Untimed => 18,
+// Each refusal's number in the paper.
+impl From<Refusal> for usize {
+    ghost from_gives = { λ r n. n ≡ number_of r };
+
+    fn from(r: Refusal) -> usize {
+        match r {
+            Refusal::Desk => 1,
+            Refusal::Output => 2,
+            Refusal::Frame => 3,
+            Refusal::Fields => 4,
+            Refusal::Size => 5,
+            Refusal::Late => 6,
+            Refusal::Conflict => 7,
+            Refusal::Six => 8,
+            Refusal::Common => 9,
+            Refusal::Spoiled => 10,
+            Refusal::NotOpen => 11,
+            Refusal::Writer => 12,
+            Refusal::Parts => 13,
+            Refusal::Payload => 14,
+            Refusal::Box => 15,
+            Refusal::Book => 16,
+            Refusal::IllFormed => 17,
+            Refusal::Untimed => 18,
+        }
     }
 }
 
-pub fn kind(o: Outcome) -> usize
-    ensures { result ≡ kind_of o }
-{
-    match o {
-        Outcome::End => 0,
-        Outcome::Whole(_) => 1,
-        Outcome::Joined(_) => 2,
-        Outcome::Kept(_) => 3,
-        Outcome::Repeat => 4,
-        Outcome::Described => 5,
-        Outcome::Skipped(_) => 6,
-        Outcome::Refused(_) => 7,
+impl Outcome {
+    // The place of the outcome in the paper's list.
+    pub fn kind(self) -> usize
+        ensures { result ≡ kind_of self }
+    {
+        match self {
+            Outcome::End => 0,
+            Outcome::Whole(_) => 1,
+            Outcome::Joined(_) => 2,
+            Outcome::Kept(_) => 3,
+            Outcome::Repeat => 4,
+            Outcome::Described => 5,
+            Outcome::Skipped(_) => 6,
+            Outcome::Refused(_) => 7,
+        }
     }
 }

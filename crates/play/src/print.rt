@@ -30,7 +30,7 @@ pub(crate) fn numbers(rt: &impl Print, s: &[usize]) -> io::Result<()> {
 
 pub(crate) fn refused(rt: &impl Print, r: Refusal) -> io::Result<()> {
     text(rt, b" refused")?;
-    number(rt, paper::number(r))
+    number(rt, usize::from(r))
 }
 
 // A yes or a no.

@@ -4,4 +4,4 @@ use Rattle.lines.proofs.put_outcome.Goals as goal
 
 pub returns-in-Refused : goal.returns-in-Refused
 unfolding outcome_text
-returns-in-Refused c = rw (c.in-Refused.is, ← c.number.ensures) c.put_count-in-Refused.ensures
+returns-in-Refused c = rw (c.in-Refused.is, ← c.from.ensures) c.put_count-in-Refused.ensures
