@@ -1,12 +1,12 @@
 -- Determined, one line for each public function: two answers, with the memory lent for them, that its promise permits for the same input
 -- are equal. The functions on bytes, text, units, boxes, samples and descriptions, and the writer. Of a part that is returned the bytes
 -- are determined here, and the place is by its lifetime. Assumes nothing.
-use Rattle.std.specs.Prelude.{ℕ, ◌+◌, ◌-◌, ◌*◌, ◌<◌, ◌≤◌, min, ◌≡◌, refl, Bool, List, [], ◌++◌, length, get_or, set, drop, replicate}
+use Rattle.std.specs.Prelude.{ℕ, ◌+◌, ◌-◌, ◌*◌, ◌^◌, ◌<◌, ◌≤◌, min, ◌≡◌, refl, Bool, Option, List, [], ◌++◌, length, get_or, set, drop, replicate}
 use Rattle.std.proofs.Common.{sym, ◌∙◌}
 use Rattle.std.proofs.lemmas.List.Edits.{sets}
 use Rattle.laws.specs.Exactly.{Determines, determined, equation, determined-by-two}
 use Rattle.laws.specs.Region.{part}
-use Rattle.octets.specs.Be.{u8_at, u16_at, u24_at, u32_at}
+use Rattle.octets.specs.Be.{u8_at, u16_at, u24_at, u32_at, be_at}
 use Rattle.octets.specs.Same as O
 use Rattle.paper.specs.Limits.{parts_most, sample_most}
 use Rattle.paper.specs.declared.Refusal.{Refusal}
@@ -14,6 +14,7 @@ use Rattle.paper.specs.declared.Outcome.{Outcome}
 use Rattle.paper.specs.Words.{number_of, kind_of}
 use Rattle.text.specs.declared.Range.{Range}
 use Rattle.text.specs.Chart.{within}
+use Rattle.text.specs.Found as F
 use Rattle.text.specs.Unicode as T
 use Rattle.unit.specs.declared.Part.{Part}
 use Rattle.unit.specs.declared.Unit as U
@@ -68,13 +69,16 @@ octets-number24 s i = λ x y p q. equation (u24_at s i) x y p.0 q.0
 pub octets-number32 : (s : List ℕ) (i : ℕ) → Determines (λ (r : ℕ). (r ≡ u32_at s i) × (r < 4294967296))
 octets-number32 s i = λ x y p q. equation (u32_at s i) x y p.0 q.0
 
+pub octets-number : (n : ℕ) (s : List ℕ) (i : ℕ) → Determines (λ (r : ℕ). (r ≡ be_at n s i) × (r < 256 ^ n))
+octets-number n s i = λ x y p q. equation (be_at n s i) x y p.0 q.0
+
 pub octets-less : (a b : ℕ) → Determines (λ (r : ℕ). r ≡ a - b)
 octets-less a b = equation (a - b)
 
 pub octets-least : (a b : ℕ) → Determines (λ (r : ℕ). r ≡ min a b)
 octets-least a b = equation (min a b)
 
-pub octets-cut : (s : List ℕ) (a k : ℕ) → Determines (λ (bytes : List ℕ). bytes ≡ part a k s)
+pub octets-cut : {A : Type 0} (s : List A) (a k : ℕ) → Determines (λ (p : List A). p ≡ part a k s)
 octets-cut s a k = equation (part a k s)
 
 pub octets-put : (dst src : List ℕ) (at : ℕ) → Determines (λ (d : List ℕ). d ≡ sets dst at src)
@@ -93,11 +97,17 @@ octets-put-word row i v = equation (set row i v)
 pub chart-eight : (s : List ℕ) → Determines (λ (r : ℕ). r ≡ T.character 0 s)
 chart-eight s = equation (T.character 0 s)
 
+pub chart-eight-found : (s : List ℕ) → Determines (λ (r : Option ℕ). r ≡ F.found (T.character 0 s))
+chart-eight-found s = equation (F.found (T.character 0 s))
+
 pub chart-within : (r : Range) (b : ℕ) → Determines (λ (t : Bool). t ≡ within r b)
 chart-within r b = equation (within r b)
 
 pub finder-character : (u : ℕ) (s : List ℕ) (at : ℕ) → Determines (λ (r : ℕ). r ≡ T.character u (drop at s))
 finder-character u s at = equation (T.character u (drop at s))
+
+pub finder-found : (u : ℕ) (s : List ℕ) (at : ℕ) → Determines (λ (r : Option ℕ). r ≡ F.found (T.character u (drop at s)))
+finder-found u s at = equation (F.found (T.character u (drop at s)))
 
 pub strings-well-formed : (u : ℕ) (s : List ℕ) → Determines (λ (r : Bool). r ≡ T.well_formed u s)
 strings-well-formed u s = equation (T.well_formed u s)

@@ -189,10 +189,11 @@ pub fn spindlefig_box(modifiers: &[u8], at: usize, row: &mut [u64])
 }
 
 // The length of the character at a place, and 0 where none is well-formed.
+#[tactic(auto, using(text::specs::Found::found_or))]
 pub fn spindlefig_character(u: usize, s: &[u8], at: usize) -> usize
     ensures { result ≡ character u (drop at s.now) }
 {
-    finder::character(u, s, at)
+    finder::character(u, s, at).unwrap_or(0)
 }
 
 // Whether all of s is well-formed.

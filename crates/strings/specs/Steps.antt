@@ -1,19 +1,19 @@
 -- A block in small blocks: a walk over characters is one walk, and another from where it led to. No part of any public promise.
 -- Assumes nothing.
-use Rattle.std.specs.Prelude.{ℕ, zero, suc, ◌+◌, ◌-◌, ◌<◌, ◌≤◌, min, ◌≡◌, ◌⊎◌, true, List, [], ◌∷◌, ◌++◌, length, take, drop}
+use Rattle.std.specs.Prelude.{ℕ, zero, suc, ◌+◌, ◌-◌, ◌<◌, ◌≤◌, min, ◌≡◌, ◌⊎◌, true, false, Option, Some, None, is_some, List, [], ◌∷◌, ◌++◌, length, take, drop}
 use native.Mathlib.Omega.{arith}
-use Rattle.std.proofs.Common.{zero-add, ◌∙◌, ⊎_elim, length-take, length-drop, drop-drop, take-add, take_all}
+use Rattle.std.proofs.Common.{true≢false, zero-add, ◌∙◌, ⊎_elim, length-take, length-drop, drop-drop, take-add, take_all}
 use Rattle.std.proofs.Math.Nat.{sub-zero}
 use Rattle.std.proofs.Math.Path.{refl, sym, ap}
 use Rattle.std.proofs.Math.Logic.{inl, inr}
-use Rattle.laws.specs.Rows.{no, ge, lt_of, ge-of, eq_of, ne_of, each, and-of}
+use Rattle.laws.specs.Rows.{◌⇒◌⁏◌, ◌and◌, ◌<?◌, ◌=?◌, yes, no, lt, ge, eq, ne, lt_of, ge-of, eq_of, ne_of, each, and-of, and_is}
 use Rattle.laws.specs.Region.{part}
-use Rattle.text.specs.Unicode.{character, WellFormed, reach_within, reach, boundary}
+use Rattle.text.specs.Unicode.{character, well_formed, WellFormed, reach_within, reach, boundary}
 use Rattle.text.proofs.Walk.{reach-turn, well-end}
 use Rattle.text.proofs.Strings.{well-formed}
 use Rattle.text.specs.Boundary.{Reached}
 use Rattle.text.proofs.Boundary.{boundary-whole, boundary-largest}
-use Rattle.text.specs.Runs.{ascii, over, walked_to, block_most}
+use Rattle.text.specs.Runs.{ascii, over, walked_to, Passed, block_most, block_end}
 use Rattle.text.proofs.Runs.{walk-on, walk-not, walked-tells, ascii-walked}
 
 -- ---- two walks
@@ -63,6 +63,57 @@ module _ (U : ℕ) (s : List ℕ) (at i to : ℕ) where
       (λ q. let z = ne_of _ _ q in inr (omega arith, two ∙ walk-on U s at to b k refl (omega arith) (omega arith))))
       (λ p. let y = ge-of _ _ p in inr (omega arith, two))
 
+-- ---- what is answered of a walk
+
+-- where a walk from `at` to `to` led that ended at e, if it did: one that stayed at its start met a character that is not well-formed
+unfoldable pub led : (at to e : ℕ) → Option ℕ
+led at to e = at <? to and e =? at ⇒ None ⁏ Some e
+
+pub led_there : (at to e : ℕ) → (at < to → at < e) → Some e ≡ led at to e
+unfolding led
+led_there at to e h =
+    no _ _ (each (λ c. c ≡ false) _ _ _ (λ p. let q = h (lt_of _ _ p) in ne _ _ (λ w. omega arith)) (λ p. refl)) refl
+
+pub led_nowhere : (at to e : ℕ) → at < to → e ≡ at → None ≡ led at to e
+unfolding led
+led_nowhere at to e h q = yes _ _ (and_is _ _ (lt _ _ h) (eq _ _ q)) refl
+
+-- and back
+pub led_on : (at to e x : ℕ) → led at to e ≡ Some x → (x ≡ e) × (at < to → e ≡ at → ⊥)
+unfolding led
+led_on at to e x =
+    each (λ r. r ≡ Some x → (x ≡ e) × (at < to → e ≡ at → ⊥)) _ _ _
+    (λ p h. cc)
+    (λ p h. (cc, λ l q. let z = sym (and_is _ _ (lt _ _ l) (eq _ _ q)) ∙ p in true≢false z))
+
+pub led_none : (at to e : ℕ) → led at to e ≡ None → (at < to) × (e ≡ at)
+unfolding led
+led_none at to e =
+    each (λ r. r ≡ None → (at < to) × (e ≡ at)) _ _ _
+    (λ p h. let b = and-of _ _ p in (lt_of _ _ b.0, eq_of _ _ b.1))
+    (λ p h. cc)
+
+-- a block that was passed over tells where it ends, behind its start
+pub led-block : (s : List ℕ) (i e : ℕ) (r : Option ℕ) → i < length s
+    → r ≡ led i (block_end s i) (walked_to 0 s i (block_end s i)) → r ≡ Some e → (e ≡ walked_to 0 s i (block_end s i)) × (e ≡ i → ⊥)
+unfolding block_end
+led-block s i e r h w z = let f = led_on _ _ _ _ (sym w ∙ z) in (f.0, λ q. f.1 (omega arith) (sym f.0 ∙ q))
+
+-- a string is well-formed where a walk leads to its end
+pub led-well : (U : ℕ) (s : List ℕ) (r : Option ℕ) → r ≡ led 0 (length s) (walked_to U s 0 (length s)) → is_some r ≡ well_formed U s
+led-well U s r w = go r refl
+  where
+    p : Passed U s 0 (length s) (walked_to U s 0 (length s))
+    p = walked-tells U s 0 (length s) (omega arith) (omega arith)
+
+    go : (v : Option ℕ) → r ≡ v → is_some v ≡ well_formed U s
+    go None z = let f = led_none _ _ _ (sym w ∙ z) in sym (p.not (omega arith)).1
+    go (Some x) z =
+        let f = led_on _ _ _ _ (sym w ∙ z) in
+        let n : walked_to U s 0 (length s) < length s → ⊥ = λ h. f.1 (omega arith) (p.not h).0 in
+        let l : length s ≤ walked_to U s 0 (length s) = omega arith in
+        well-end U s (walked_to U s 0 (length s)) l ∙ sym (p.same l)
+
 -- ---- small blocks
 
 -- how many bytes they have, and where the one at `at` ends, within `to`
@@ -85,6 +136,17 @@ module _ (s : List ℕ) (at i to e : ℕ) (h : i < to) (w : e ≡ walked_to 0 s 
   -- else to go on from i is to go on from e
   pub small-on : (e ≡ i → ⊥) → (i < e) × (over 0 s at to (boundary 0 s i to) ≡ over 0 s at to (boundary 0 s e to))
   small-on z = ⊎_elim (λ p. absurd (z p.0)) (λ p. p) told
+
+-- so what was answered of it tells
+module _ (s : List ℕ) (at i to : ℕ) (r : Option ℕ) (h : i < to) (w : r ≡ led i (small_end i to) (walked_to 0 s i (small_end i to))) where
+  pub small_none : r ≡ None → at ≡ over 0 s at to (boundary 0 s i to)
+  small_none z = small-not s at i to _ h refl (led_none _ _ _ (sym w ∙ z)).1
+
+  pub small_some : (e : ℕ) → r ≡ Some e → (i < e) × (over 0 s at to (boundary 0 s i to) ≡ over 0 s at to (boundary 0 s e to))
+  unfolding small_end
+  small_some e z =
+      let f = led_on _ _ _ _ (sym w ∙ z) in
+      small-on s at i to e h f.0 (λ q. f.1 (omega arith) (sym f.0 ∙ q))
 
 -- ASCII is well-formed, as far as a block's law says it
 ascii-well : (b : List ℕ) → length b ≤ block_most → ascii b ≡ true → WellFormed 0 b

@@ -4,7 +4,7 @@
 ghost use Rattle.std.specs.Prelude.{◌≡◌};
 ghost use Rattle.text.specs.Unicode.{well_formed, boundary};
 ghost use Rattle.text.specs.Runs.{ascii, walked_to, block_end};
-ghost use Rattle.strings.specs.Steps.{small_end};
+ghost use Rattle.strings.specs.Steps.{small_end, led};
 
 // How many bytes are looked at together, whether they are all ASCII; and how many where those are not.
 const BLOCK: usize = 128;
@@ -18,10 +18,7 @@ pub fn well_formed(u: usize, s: &[u8]) -> bool
     if u == 0 {
         return by_blocks(s);
     }
-    if walked(u, s, 0, s.len()) < s.len() {
-        return false;
-    }
-    true
+    walked(u, s, 0, s.len()).is_some()
 }
 
 // UTF-8, block by block.
@@ -30,88 +27,69 @@ fn by_blocks(s: &[u8]) -> bool
 {
     let mut i = 0;
     while i < s.len() {
-        let e = passed(s, i);
-        if e == i {
+        let Some(e) = passed(s, i) else {
             return false;
-        }
+        };
         i = e;
     }
     true
 }
 
-// The place behind the characters that begin in the next block; `at` where one of them is not well-formed. A block of ASCII is passed
-// over whole.
-fn passed(s: &[u8], at: usize) -> usize
-    ensures { result ≡ walked_to 0 s.now at (block_end s.now at) }
+// The place behind the characters that begin in the next block, where they are all well-formed. A block of ASCII is passed over whole.
+fn passed(s: &[u8], at: usize) -> Option<usize>
+    ensures { result ≡ led at (block_end s.now at) (walked_to 0 s.now at (block_end s.now at)) }
 {
     let block = octets::cut(s, at, BLOCK);
     let to = at + block.len();
     if ascii(block) {
-        return to;
+        return Some(to);
     }
     by_small(s, at, to)
 }
 
 // What `walked` gives of UTF-8, small block by small block.
-fn by_small(s: &[u8], at: usize, to: usize) -> usize
-    ensures { result ≡ walked_to 0 s.now at to }
+fn by_small(s: &[u8], at: usize, to: usize) -> Option<usize>
+    ensures { result ≡ led at to (walked_to 0 s.now at to) }
 {
     let mut i = at;
     while i < to {
-        let e = small(s, i, to);
-        if e == i {
-            return at;
-        }
-        i = e;
+        i = small(s, i, to)?;
     }
-    i
+    Some(i)
 }
 
 // What `walked` gives of the next small block. The SMALL bytes in front of its end are looked at, even where it is shorter: the compiler
 // makes a pass over a fixed number of bytes several bytes wide.
-fn small(s: &[u8], at: usize, to: usize) -> usize
-    ensures { result ≡ walked_to 0 s.now at (small_end at to) }
+fn small(s: &[u8], at: usize, to: usize) -> Option<usize>
+    ensures { result ≡ led at (small_end at to) (walked_to 0 s.now at (small_end at to)) }
 {
-    let end = at + octets::least(SMALL, octets::less(to, at));
-    if SMALL <= end {
-        if end <= s.len() {
-            let from = end - SMALL;
-            if ascii(&s[from..end]) {
-                return end;
-            }
-        }
+    let end = at + SMALL.min(to.saturating_sub(at));
+    if SMALL <= end && end <= s.len() && ascii(&s[end - SMALL..end]) {
+        return Some(end);
     }
     walked(0, s, at, end)
 }
 
-// Whether all bytes are 00 to 7F. The pass is not left early, so that the compiler makes it several bytes wide.
+// Whether all bytes are 00 to 7F. The pass is not left early, as `all` would leave it, so that the compiler makes it several bytes wide.
 fn ascii(s: &[u8]) -> bool
     ensures { result ≡ ascii s.now }
 {
     let mut all = true;
-    let mut i = 0;
-    while i < s.len() {
-        if 0x7F < s[i] {
-            all = false;
-        }
-        i += 1;
+    for byte in s {
+        all &= *byte <= 0x7F;
     }
     all
 }
 
-// The place behind the characters that begin before `to`; `at` where one of them is not well-formed.
-fn walked(u: usize, s: &[u8], at: usize, to: usize) -> usize
-    ensures { result ≡ walked_to u s.now at to }
+// The place behind the characters that begin before `to`, where they are all well-formed.
+fn walked(u: usize, s: &[u8], at: usize, to: usize) -> Option<usize>
+    ensures { result ≡ led at to (walked_to u s.now at to) }
 {
     let mut i = at;
     while i < to {
-        let k = finder::character(u, s, i);
-        if k == 0 {
-            return at;
-        }
-        i += k;
+        i += finder::character(u, s, i)?;
     }
-    i
+    Some(i)
 }
 
 // The last place within the limit that whole characters lead to from `at` on.
@@ -120,10 +98,9 @@ pub fn boundary(u: usize, s: &[u8], at: usize, limit: usize) -> usize
 {
     let mut e = at;
     while e < limit {
-        let k = finder::character(u, s, e);
-        if k == 0 {
+        let Some(k) = finder::character(u, s, e) else {
             return e;
-        }
+        };
         if limit - e < k {
             return e;
         }

@@ -9,3 +9,4 @@ pub mod Eight
 pub mod Sixteen
 pub mod Boundary
 pub mod Runs
+pub mod Found

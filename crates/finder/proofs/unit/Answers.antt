@@ -5,14 +5,11 @@ use mathlib.Core.Path.{sym}
 use Rattle.text.proofs.Sixteen.{unit-is, unit-none}
 use Rattle.finder.proofs.unit.Goals as goal
 
-pub returns-then-s-i : goal.returns-then-s-i
-returns-then-s-i c = unit-none _ _ (omega arith)
-
-pub returns-then-s-i-lt2 : goal.returns-then-s-i-lt2
-returns-then-s-i-lt2 c = unit-none _ _ (omega arith)
+pub returns-then-saturating_sub-lt2 : goal.returns-then-saturating_sub-lt2
+returns-then-saturating_sub-lt2 c = unit-none _ _ (omega arith)
 
 pub returns : goal.returns
 returns c =
     let a = c.args in
     let bytes = c.shared_slice_known-1.given in
-    sym (unit-is _ a.i _ (omega arith) (omega (arith, bytes (a.i + 1))) (sym c.number16.ensures.0))
+    sym (unit-is _ a.i _ (omega arith) (omega (arith, bytes (a.i + 1))) (sym c.number.ensures.0))
