@@ -11,8 +11,7 @@ use Rattle.sample.specs.declared.Place.{Place}
 use Rattle.sample.specs.Place.{bare, closed}
 use Rattle.sample.specs.Head.{whole, alone, has-any, agrees-any}
 use Rattle.desk.specs.Desk.{Own, After, answering, turn, refuse, conflicts, timed}
-use Rattle.asks.specs.declared.Settled.{Settled}
-use Rattle.asks.specs.Settled.{settled, open_in, laid, no_part, part_of, arrival_of}
+use Rattle.asks.specs.Settled.{Settled, settled, open_in, laid, no_part, part_of, arrival_of}
 use Rattle.unit.specs.declared.Part as P
 use Rattle.unit.specs.declared.Unit.TheVariants as U
 use Rattle.unit.specs.declared.Reading.{Reading}

@@ -8,6 +8,7 @@ use Rattle.paper.specs.declared.Refusal.TheVariants as R
 use Rattle.paper.specs.Time.{Time}
 use Rattle.paper.specs.declared.Outcome.{Outcome}
 use Rattle.paper.specs.declared.Outcome.TheVariants as O
+use Rattle.paper.specs.declared.Answer.{Answer}
 use Rattle.unit.specs.declared.Part as P
 use Rattle.unit.specs.declared.Unit.{Unit}
 use Rattle.unit.specs.declared.Unit.TheVariants.{End, Skipped, Refused, Whole, Part, Description}
@@ -19,7 +20,6 @@ use Rattle.sample.specs.Place.{closed}
 use Rattle.desk.specs.declared.Shares.{Shares}
 use Rattle.desk.specs.Desk.{Own, After, own, says, stay, six, used_up, part_at, taken, is_part}
 use Rattle.asks.specs.declared.Arrival.{Arrival}
-use Rattle.asks.specs.declared.Settled.{Settled}
 use Rattle.asks.specs.Bar.{Bar}
 
 -- ---- a place whose numbers go by value and whose arrays are lent: before the call, and after it
@@ -31,6 +31,11 @@ before h kinds starts lens bytes = whole h kinds.entry.now starts.entry.now lens
 
 abbrev pub after : Head → (kinds starts lens bytes : Array) → Place
 after h kinds starts lens bytes = whole h kinds.exit.now starts.exit.now lens.exit.now bytes.exit.now
+
+-- the numbers of the sample after the call, and the answer
+pub record Settled : Type 0 where
+  pub head : Head
+  pub answer : Answer
 
 abbrev pub settled : Head → (used : ℕ) → (next : Time) → Outcome → Settled
 settled h used next o = record { head = h; answer = says used next o }

@@ -3,23 +3,15 @@
 
 ghost use Rattle.std.specs.Prelude.{◌≡◌};
 ghost use Rattle.finished.specs.Times.{late};
-ghost use Rattle.sample.specs.Head.{alone};
 ghost use Rattle.sample.specs.Place.{closed};
 ghost use Rattle.desk.specs.Desk.{in_use, says, is_text, is_part, later, later_part, conflicts, six, used_up};
-ghost use Rattle.asks.specs.Settled.{settled, barred, arrival_of};
+ghost use Rattle.asks.specs.Settled.{barred, arrival_of};
 
 use desk::Shares;
 use paper::limits::{OPEN_MOST, OWN_PLACES};
 use paper::{Answer, Outcome, Refusal, Time};
-use sample::Head;
+use sample::Place;
 use unit::{Part, Reading, Unit};
-
-// The numbers of the sample after the call, and the answer.
-#[derive(Clone, Copy)]
-pub struct Settled {
-    pub head: Head,
-    pub answer: Answer,
-}
 
 // A part as it came: the bytes that it uses, and the part.
 #[derive(Clone, Copy)]
@@ -28,18 +20,17 @@ pub struct Arrival {
     pub part: Part,
 }
 
-pub fn said(head: Head, used: usize, next: Time, outcome: Outcome) -> Settled
-    ensures { result ≡ settled head used next outcome }
-{
-    Settled {
-        head,
-        answer: Answer {
-            used,
-            next,
-            outcome,
-        },
-    }
-}
+const NO_PART: Part = Part {
+    kind: 0,
+    total: 0,
+    this: 0,
+    sdur: 0,
+    u: 0,
+    sidx: 0,
+    slen: 0,
+    start: 0,
+    len: 0,
+};
 
 pub fn says(used: usize, next: Time, outcome: Outcome) -> Answer
     ensures { result ≡ says used next outcome }
@@ -63,52 +54,35 @@ pub fn add_time(time: u32, sdur: usize) -> Time
     if sdur == 0 {
         return None;
     }
-    Some(std::num::wrapping_add_u32(time, (sdur % 4294967296) as u32))
+    Some(time.wrapping_add((sdur % 4294967296) as u32))
 }
 
 pub fn next_time(time: u32, x: Part) -> Time
     ensures { result ≡ later_part time x }
 {
     if x.this == x.total {
-        return add_time(time, x.sdur);
+        add_time(time, x.sdur)
+    } else {
+        Some(time)
     }
-    Some(time)
 }
 
-pub fn does_conflict(q: Head, x: Part) -> bool
-    ensures { result ≡ conflicts (alone q) x }
+pub fn does_conflict(q: &Place, x: Part) -> bool
+    ensures { result ≡ conflicts q.now x }
 {
-    if parts::has(q, x.this) {
-        return true;
-    }
-    if parts::agrees(q, x) {
-        return false;
-    }
-    true
+    parts::has(q, x.this) || !parts::agrees(q, x)
 }
 
 fn has_six(h: Shares) -> bool
     ensures { result ≡ six closed h }
 {
-    if OPEN_MOST - 1 < h.opens {
-        return true;
-    }
-    false
+    OPEN_MOST - 1 < h.opens
 }
 
 fn is_used_up(h: Shares) -> bool
     ensures { result ≡ used_up closed h }
 {
-    if h.opens < OWN_PLACES {
-        return false;
-    }
-    if h.common % 2 == 1 {
-        return false;
-    }
-    if h.common / 2 == h.desks {
-        return true;
-    }
-    false
+    OWN_PLACES <= h.opens && (h.common % 2 == 0 && h.common / 2 == h.desks)
 }
 
 // What bars a part that opens a sample, in the order of refusals.
@@ -134,45 +108,23 @@ pub fn find_bar(late: bool, over: bool, h: Shares) -> Result<(), Refusal>
 pub fn is_part(r: Reading) -> bool
     ensures { result ≡ is_part r.unit }
 {
-    let x = r.unit;
-    match x {
-        Unit::Part(_) => true,
-        _ => false,
-    }
+    matches!(r.unit, Unit::Part(_))
 }
 
 // Whether the unit names a sample: TYPE 1 to 4.
 pub fn is_text(r: Reading) -> bool
     ensures { result ≡ is_text r.unit }
 {
-    let x = r.unit;
-    match x {
-        Unit::Whole(_) => true,
-        _ => is_part(r),
-    }
+    matches!(r.unit, Unit::Whole(_) | Unit::Part(_))
 }
 
 // The part that was read, with the bytes that it uses; zeros where it is none.
 pub fn arrived(r: Reading) -> Arrival
     ensures { result ≡ arrival_of r }
 {
-    let used = r.used;
-    let x = r.unit;
-    match x {
-        Unit::Part(part) => Arrival { used, part },
-        _ => Arrival {
-            used,
-            part: Part {
-                kind: 0,
-                total: 0,
-                this: 0,
-                sdur: 0,
-                u: 0,
-                sidx: 0,
-                slen: 0,
-                start: 0,
-                len: 0,
-            },
-        },
-    }
+    let part = match r.unit {
+        Unit::Part(x) => x,
+        _ => NO_PART,
+    };
+    Arrival { used: r.used, part }
 }

@@ -102,24 +102,39 @@ module _ (h : Shares) (row marks store out : List ℕ) (desk time used : ℕ) (n
       go false false false true = refl
       go false false false false = refl
 
-  -- n is the head that is opened, a and b what was asked, g what was found
-  module _ (n : Head) (New-is : n ≡ head_of new) (a b : Bool) (late : a ≡ is_late s time) (over : b ≡ oversize (alone n) x (length d))
-      (g : Bar) (found : g ≡ barred a b h) where
-    found-is : unbarred g ≡ joining h s time used next new x d
-    found-is =
-        let e : g ≡ barred (is_late s time) (oversize new x (length d)) h =
-        found ∙ rw (late, over, over-alone desk time x n New-is (length d)) in
+  -- a and b are what was asked, g what was found
+  module _ (a b : Bool) (late : a ≡ is_late s time) (over : b ≡ oversize new x (length d)) (g : Bar) (found : g ≡ barred a b h) where
+    found-in : unbarred g ≡ joining h s time used next new x d
+    found-in =
+        let e : g ≡ barred (is_late s time) (oversize new x (length d)) h = found ∙ rw (late, over) in
         ap unbarred e ∙ opens
 
+    pub new_not : (r : Refusal) → g ≡ Err r → refuse s used next r ≡ joining h s time used next new x d
+    new_not r e = ap unbarred (sym e) ∙ found-in
+
+    pub new-now : g ≡ Free → completed s time used next (kept new x d) ≡ joining h s time used next new x d
+    new-now e = ap unbarred (sym e) ∙ found-in
+
+    pub new_kept : g ≡ Free → 1 < x.total
+        → left (answering (kept new x d) used next (O.Kept (missing (kept new x d)))) row marks store out
+        ≡ joining h s time used next new x d
+    new_kept e more = kept_new desk time x s used next d more ∙ new-now e
+
+  -- the same of the new place's numbers by value: n is the head that is opened
+  module _ (n : Head) (New-is : n ≡ head_of new) (a b : Bool) (late : a ≡ is_late s time) (over : b ≡ oversize (alone n) x (length d))
+      (g : Bar) (found : g ≡ barred a b h) where
+    whole-over : b ≡ oversize new x (length d)
+    whole-over = over ∙ over-alone desk time x n New-is (length d)
+
     pub opens_not : (r : Refusal) → g ≡ Err r → refuse s used next r ≡ joining h s time used next new x d
-    opens_not r e = ap unbarred (sym e) ∙ found-is
+    opens_not = new_not a b late whole-over g found
 
     pub opens-now : g ≡ Free → completed s time used next (kept new x d) ≡ joining h s time used next new x d
-    opens-now e = ap unbarred (sym e) ∙ found-is
+    opens-now = new-now a b late whole-over g found
 
     pub opens_kept : g ≡ Free → 1 < x.total → (k : Head) (kinds starts lens bytes : List ℕ)
         → whole k kinds starts lens bytes ≡ kept new x d → (m : ℕ) → m ≡ missing (alone k)
         → left (answering (whole k kinds starts lens bytes) used next (O.Kept m)) row marks store out ≡ joining h s time used next new x d
     opens_kept e more k kinds starts lens bytes is m are =
         let all : m ≡ missing (whole k kinds starts lens bytes) = are ∙ missing-any k kinds starts lens bytes in
-        rw (all, is) (kept_new desk time x s used next d more) ∙ opens-now e
+        rw (all, is) (new_kept a b late whole-over g found e more)

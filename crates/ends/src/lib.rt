@@ -3,16 +3,14 @@
 
 ghost use Rattle.std.specs.Prelude.{◌≡◌, List, ℕ, set};
 ghost use Rattle.laws.specs.Rows.{◌⇒◌⁏◌};
+ghost use Rattle.paper.specs.Time.{Time};
 ghost use Rattle.finished.specs.Times.{marked_row, marked_used};
 ghost use Rattle.sample.specs.declared.Place.{Place};
 ghost use Rattle.sample.specs.Place.{closed};
-ghost use Rattle.desk.specs.Desk.{in_use, own, turn, left, completed, freed, given_up};
-ghost use Rattle.asks.specs.Settled.{before, after};
+ghost use Rattle.desk.specs.Desk.{in_use, own, answering, left, completed, freed, given_up};
 
-use asks::Settled;
-use paper::limits::{PARTS_MOST, SAMPLE_MOST};
-use paper::{Facts, Outcome, Refusal, Time};
-use sample::Head;
+use paper::{Facts, Outcome, Refusal};
+use sample::Place;
 
 pub fn finish(row: &mut [u32], marks: &mut [u32], time: u32)
     ensures { (row.new ≡ marked_row row.old (in_use marks.old) time)
@@ -22,54 +20,39 @@ pub fn finish(row: &mut [u32], marks: &mut [u32], time: u32)
     octets::put_word(marks, 0, used as u32);
 }
 
-// The part is kept in q: parts are missing still, or the sample is joined or spoiled.
+// The part is kept in p: parts are missing still, or the sample is joined or spoiled, and its place is free.
 pub fn complete(
-    q: Head,
-    kinds: &mut [usize; PARTS_MOST],
-    starts: &mut [usize; PARTS_MOST],
-    lens: &mut [usize; PARTS_MOST],
-    bytes: &mut [u8; SAMPLE_MOST],
+    p: &mut Place,
     row: &mut [u32],
     marks: &mut [u32],
     time: u32,
-    used: usize,
-    next: Time,
     out: &mut [u8],
-) -> Settled
-    ensures { (p : Place) (store : List ℕ)
-        → left (turn (after result.head kinds starts lens bytes) result.answer)
-        row.new marks.new store out.new
-        ≡ completed (own p row.old marks.old store out.old) time used next
-        (before q kinds starts lens bytes) }
+) -> Outcome
+    ensures { (q : Place) (used : ℕ) (next : Time) (store : List ℕ)
+        → left (answering p.new used next result) row.new marks.new store out.new
+        ≡ completed (own q row.old marks.old store out.old) time used next p.old }
 {
-    let missing = keeps::missing(q);
+    let missing = keeps::missing(p);
     if 0 < missing {
-        return asks::said(q, used, next, Outcome::Kept(missing));
+        return Outcome::Kept(missing);
     }
-    let l = lengths::measure(q, kinds, starts, lens, bytes);
-    let many = l.sample;
-    if order::is_sound(q, kinds, many) {
-        let facts = Facts {
+    let l = lengths::measure(p);
+    let outcome = if order::is_sound(p, l.sample) {
+        together::put_together(p, out);
+        Outcome::Joined(Facts {
             time,
-            u: q.u,
-            sidx: q.sidx,
-            sdur: q.sdur,
+            u: p.u,
+            sidx: p.sidx,
+            sdur: p.sdur,
             string: l.string,
-            sample: many,
-        };
-        together::put_together(q, starts, lens, bytes, out);
-        bare::clear(kinds, starts, lens, bytes);
-        finish(row, marks, time);
-        return asks::said(bare::closed_head(), used, next, Outcome::Joined(facts));
-    }
-    bare::clear(kinds, starts, lens, bytes);
+            sample: l.sample,
+        })
+    } else {
+        Outcome::Refused(Refusal::Spoiled)
+    };
+    bare::close(p);
     finish(row, marks, time);
-    asks::said(
-        bare::closed_head(),
-        used,
-        next,
-        Outcome::Refused(Refusal::Spoiled),
-    )
+    outcome
 }
 
 // Gives the sample of this time up, if one is open: its time is marked finished. The place is the caller's to free.
@@ -78,9 +61,9 @@ pub fn give_up(is_open: bool, row: &mut [u32], marks: &mut [u32], time: u32) -> 
         → freed (is_open ⇒ closed ⁏ p) result row.new marks.new store out
         ≡ given_up (own p row.old marks.old store out) time }
 {
-    if is_open {
-        finish(row, marks, time);
-        return Ok(());
+    if !is_open {
+        return Err(Refusal::NotOpen);
     }
-    Err(Refusal::NotOpen)
+    finish(row, marks, time);
+    Ok(())
 }

@@ -26,7 +26,7 @@ fn whole_at(
 {
     match t {
         Some(time) => singles::take_whole(is_open, row, marks, time, used, w, d, out),
-        None => { asks::says(used, None, Outcome::Refused(Refusal::Untimed)) }
+        None => asks::says(used, None, Outcome::Refused(Refusal::Untimed)),
     }
 }
 
@@ -47,8 +47,7 @@ pub fn pass(
         rest.now }
 {
     let used = r.used;
-    let x = r.unit;
-    match x {
+    match r.unit {
         Unit::End => asks::says(used, t, Outcome::End),
         Unit::Skipped(kind) => asks::says(used, t, Outcome::Skipped(kind)),
         Unit::Refused(why) => asks::says(used, t, Outcome::Refused(why)),

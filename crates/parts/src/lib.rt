@@ -1,89 +1,57 @@
 // What a part is to an open sample, by its numbers: whether its THIS is kept, whether it agrees, whether it is too much.
 #![tactic(auto)]
 
-ghost use Rattle.std.specs.Prelude.{◌≡◌};
-ghost use Rattle.laws.specs.Rows.{◌and◌, ◌<?◌};
-ghost use Rattle.sample.specs.Head.{alone};
-ghost use Rattle.sample.specs.Place.{has, alike, agrees, oversize};
+ghost use Rattle.std.specs.Prelude.{◌≡◌, ℕ};
+ghost use Rattle.laws.specs.Rows.{◌or◌, ◌and◌, ◌<?◌, ◌=?◌};
+ghost use Rattle.paper.specs.Limits.{sample_most};
+ghost use Rattle.sample.specs.Place.{has, alike, agrees, oversize, opened};
 
 use paper::limits::{PARTS_MOST, SAMPLE_MOST};
-use sample::Head;
+use sample::Place;
 use unit::Part;
 
 // Whether part `this` is kept.
-pub fn has(p: Head, this: usize) -> bool
-    ensures { result ≡ has (alone p) this }
+pub fn has(p: &Place, this: usize) -> bool
+    ensures { result ≡ has p.now this }
 {
-    if this == 0 {
-        return false;
+    match this {
+        1..=PARTS_MOST => (p.mask >> (this - 1)) % 2 == 1,
+        _ => false,
     }
-    if PARTS_MOST < this {
-        return false;
-    }
-    (p.mask >> (this - 1)) % 2 == 1
 }
 
 // Whether a TYPE 2 part says what an earlier one told.
-fn alike(p: Head, x: Part) -> bool
-    ensures { result ≡ alike (alone p) x }
+fn alike(p: &Place, x: Part) -> bool
+    ensures { result ≡ alike p.now x }
 {
-    if p.u != x.u {
-        return false;
-    }
-    if p.sidx != x.sidx {
-        return false;
-    }
-    p.slen == x.slen
+    (p.u, p.sidx, p.slen) == (x.u, x.sidx, x.slen)
 }
 
 // Whether the part agrees with the sample.
-pub fn agrees(p: Head, x: Part) -> bool
-    ensures { result ≡ agrees (alone p) x }
+pub fn agrees(p: &Place, x: Part) -> bool
+    ensures { result ≡ agrees p.now x }
 {
-    if p.total != x.total {
-        return false;
-    }
-    if p.sdur != x.sdur {
-        return false;
-    }
-    if x.kind != 2 {
-        return true;
-    }
-    if p.told {
-        return alike(p, x);
-    }
-    true
+    (p.total, p.sdur) == (x.total, x.sdur) && (x.kind != 2 || !p.told || alike(p, x))
 }
 
-// Whether a is below b, where that counts.
-fn below(counts: bool, a: usize, b: usize) -> bool
-    ensures { result ≡ (counts and a <? b) }
+// Refusal 5 for what the part itself tells, with that many bytes kept.
+fn exceeds(x: Part, sum: usize) -> bool
+    ensures { result ≡ (sample_most <? sum or x.kind =? 2 and (sample_most <? x.slen or x.slen <? sum)) }
 {
-    if counts {
-        return a < b;
-    }
-    false
+    SAMPLE_MOST < sum || x.kind == 2 && (SAMPLE_MOST < x.slen || x.slen < sum)
 }
 
 // Refusal 5, for the part with n bytes of data.
-pub fn oversize(p: Head, x: Part, n: usize) -> bool
-    ensures { result ≡ oversize (alone p) x n }
+pub fn oversize(p: &Place, x: Part, n: usize) -> bool
+    ensures { result ≡ oversize p.now x n }
 {
-    if below(x.kind == 2, SAMPLE_MOST, x.slen) {
-        return true;
-    }
-    if SAMPLE_MOST < p.filled {
-        return true;
-    }
-    if SAMPLE_MOST < n {
-        return true;
-    }
-    let sum = p.filled + n;
-    if SAMPLE_MOST < sum {
-        return true;
-    }
-    if below(x.kind == 2, x.slen, sum) {
-        return true;
-    }
-    below(p.told, p.slen, sum)
+    let sum = p.filled.saturating_add(n);
+    exceeds(x, sum) || p.told && p.slen < sum
+}
+
+// The same for a part that opens its sample: nothing is kept yet, and nothing told.
+pub fn is_too_much(x: Part, n: usize) -> bool
+    ensures { (desk time : ℕ) → result ≡ oversize (opened desk time x) x n }
+{
+    exceeds(x, n)
 }

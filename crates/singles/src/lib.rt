@@ -62,6 +62,5 @@ pub fn take_description(
 {
     let r = notes::note(store, octets::word(marks, 1) as usize, w.sidx, d);
     octets::put_word(marks, 1, (r.newest % 4294967296) as u32);
-    let outcome = r.outcome;
-    asks::says(used, t, outcome)
+    asks::says(used, t, r.outcome)
 }

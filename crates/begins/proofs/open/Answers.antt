@@ -1,45 +1,26 @@
 -- `begins::open` meets its contract: a part that is barred leaves the free place, else the place is the new sample. Assumes nothing.
-use Rattle.std.proofs.Common.{ap, ◌∙◌}
+use Rattle.std.proofs.Common.{◌≡◌, ap, ◌∙◌}
+use Rattle.paper.specs.declared.Outcome.TheVariants as O
 use Rattle.sample.specs.declared.Place.{Place}
-use Rattle.sample.specs.Head.{whole}
-use Rattle.sample.specs.Place.{kept}
-use Rattle.desk.specs.Desk.{Turn, left}
-use Rattle.begins.specs.Begins.{new-cleared, laid_none, laid-new, used-new, opens_not, opens_kept}
-use Rattle.asks.specs.Asked.{told_of}
+use Rattle.sample.specs.Place.{opened, kept, missing}
+use Rattle.desk.specs.Desk.{says}
+use Rattle.begins.specs.Begins.{laid_none, laid-new, used-new, new_not, new_kept}
 use Rattle.begins.proofs.open.Goals as goal
 
 pub returns-in-Err : goal.returns-in-Err
-returns-in-Err c = λ store out.
+returns-in-Err c = λ used next store out.
     let a = c.args in
-    let row = a.row.now in
-    let marks = a.marks.now in
-    let x = a.x in
-    let used = a.used in
-    let d = a.d.now in
-    let next = a.next in
-    let before = whole a.q a.kinds.now a.starts.now a.lens.now a.bytes.now in
-    let not = opens_not a.h row marks store out a.desk a.time used next x d
-    _ c.opened-new.ensures _ _ c.is_late-late.ensures c.oversize.ensures _ c.find_bar-bar.ensures
-    _ c.in-Err.is in
-    ap (λ (t : Turn). left t row marks store out) (told_of _ _ _ _ _ _ _ _ _ c.said.ensures)
-    ∙ laid_none before c.requires.0 _ row marks store out _ not
+    laid_none a.p.now c.requires.0 _ a.row.now a.marks.now store out _
+    (new_not a.h a.row.now a.marks.now store out a.desk a.time used next a.x a.d.now
+    _ _ c.is_late-late.ensures (c.is_too_much.ensures a.desk a.time) _ c.find_bar.ensures _ c.in-Err.is)
 
 pub returns-in-Ok : goal.returns-in-Ok
-returns-in-Ok c = λ store out.
+returns-in-Ok c = λ used next store out.
     let a = c.args in
-    let row = a.row.now in
-    let marks = a.marks.now in
-    let x = a.x in
-    let used = a.used in
-    let d = a.d.now in
-    let next = a.next in
-    let pre = c.requires in
-    let before = whole a.q a.kinds.now a.starts.now a.lens.now a.bytes.now in
-    let e = c.clear.ensures in
-    let empty = new-cleared a.desk a.time x _ _ _ _ _ c.opened-new.ensures e.0 e.1 e.2 e.3 in
-    let is = c.keep-k.ensures ∙ ap (λ (p : Place). kept p x d) empty in
-    let new = opens_kept a.h row marks store out a.desk a.time used next x d
-    _ c.opened-new.ensures _ _ c.is_late-late.ensures c.oversize.ensures _ c.find_bar-bar.ensures
-    c.in-Ok.is pre.1 _ _ _ _ _ is _ c.missing.ensures in
-    ap (λ (t : Turn). left t row marks store out) (told_of _ _ _ _ _ _ _ _ _ c.said-in-Ok.ensures)
-    ∙ laid-new before pre.0 _ row marks store out _ _ (ap (λ (p : Place). p.used) is ∙ used-new a.desk a.time x d) new
+    let new = opened a.desk a.time a.x in
+    let is : c.keep.new.p ≡ kept new a.x a.d.now = c.keep.ensures ∙ ap (λ (p : Place). kept p a.x a.d.now) c.open.ensures in
+    rw (c.missing.ensures, is)
+    (laid-new a.p.now c.requires.0 (says used next (O.Kept (missing (kept new a.x a.d.now)))) a.row.now a.marks.now store out _
+    _ (used-new a.desk a.time a.x a.d.now)
+    (new_kept a.h a.row.now a.marks.now store out a.desk a.time used next a.x a.d.now
+    _ _ c.is_late-late.ensures (c.is_too_much.ensures a.desk a.time) _ c.find_bar.ensures c.in-Ok.is c.requires.1))

@@ -1,44 +1,36 @@
 -- `ends::complete` meets its contract: each return is one of the laws of a part that is kept. Assumes nothing.
-use Rattle.std.proofs.Common.{◌∙◌}
-use Rattle.sample.specs.Head.{whole, missing-any}
-use Rattle.desk.specs.Desk.{own}
-use Rattle.ends.specs.Ends.{cleared}
-use Rattle.asks.specs.Asked.{told_of}
+use Rattle.std.proofs.Common.{◌≡◌, refl, ap, ◌∙◌}
+use Rattle.paper.specs.declared.Outcome.{Outcome}
+use Rattle.joining.specs.Joining.{sound}
+use Rattle.sample.specs.Place.{pieces_of}
+use Rattle.desk.specs.Desk.{own, answering}
 use Rattle.ends.specs.Ends.{kept-some, kept-joined, kept-spoiled}
 use Rattle.ends.proofs.complete.Goals as goal
+use Rattle.ends.proofs.complete.Goals.{then-is_sound, else-is_sound}
 
 pub returns-then-missing-gt0 : goal.returns-then-missing-gt0
-returns-then-missing-gt0 c = λ p store.
+returns-then-missing-gt0 c = λ q used next store.
     let a = c.args in
-    let s = own p a.row.now a.marks.now store a.out.now in
-    let q = whole a.q a.kinds.now a.starts.now a.lens.now a.bytes.now in
-    let missing = c.missing-missing.ensures ∙ missing-any a.q _ _ _ _ in
-    kept-some s a.time a.used a.next q _ missing c.if-missing-gt0.true _ (told_of _ _ _ _ _ _ _ _ _ c.said.ensures)
-
-pub returns-then-is_sound : goal.returns-then-is_sound
-returns-then-is_sound c = λ p store.
-    let f = c.finish.ensures in
-    let a = c.args in
-    let s = own p a.row.now a.marks.now store a.out.now in
-    let q = whole a.q a.kinds.now a.starts.now a.lens.now a.bytes.now in
-    let missing = c.missing-missing.ensures ∙ missing-any a.q _ _ _ _ in
-    let n = c.measure-l.ensures in
-    let r = c.clear.ensures in
-    kept-joined s a.time a.used a.next q _ missing c.if-missing-gt0.false
-    _ (c.is_sound.ensures _ _ _ n.1) _ (cleared _ _ _ _ _ c.closed_head.ensures r.0 r.1 r.2 r.3)
-    _ _ f.0 f.1 c.if-is_sound.true _ _ n.0 n.1 _ (c.put_together.ensures _)
-    _ (told_of _ _ _ _ _ _ _ _ _ c.said-then-is_sound.ensures)
+    let s = own q a.row.now a.marks.now store a.out.now in
+    kept-some s a.time used next a.p.now _ c.missing-missing.ensures c.if-missing-gt0.true _ refl
 
 pub returns : goal.returns
-returns c = λ p store.
-    let f = c.finish-2.ensures in
+unfolding sound
+returns c = λ q used next store.
     let a = c.args in
-    let s = own p a.row.now a.marks.now store a.out.now in
-    let q = whole a.q a.kinds.now a.starts.now a.lens.now a.bytes.now in
-    let missing = c.missing-missing.ensures ∙ missing-any a.q _ _ _ _ in
+    let p = a.p.now in
+    let s = own q a.row.now a.marks.now store a.out.now in
     let n = c.measure-l.ensures in
-    let r = c.clear-2.ensures in
-    kept-spoiled s a.time a.used a.next q _ missing c.if-missing-gt0.false
-    _ (c.is_sound.ensures _ _ _ n.1) _ (cleared _ _ _ _ _ c.closed_head-2.ensures r.0 r.1 r.2 r.3)
-    _ _ f.0 f.1 c.if-is_sound.false
-    _ (told_of _ _ _ _ _ _ _ _ _ c.said-2.ensures)
+    let f = c.finish.ensures in
+    let is : c.is_sound.result ≡ sound p.slen (pieces_of p) = rw (← n.1) c.is_sound.ensures in
+    elim c.if-is_sound.branch [
+      | then-is_sound w ↦
+          kept-joined s a.time used next p _ c.missing-missing.ensures c.if-missing-gt0.false
+          _ is _ c.close.ensures _ _ f.0 f.1 w.if-is_sound.true _ _ n.0 n.1 _ (w.out-is ∙ w.put_together.ensures)
+          _ (ap (λ (o : Outcome). answering c.close.new.p used next o) w.outcome-is)
+      | else-is_sound w ↦
+          rw w.out-is
+          (kept-spoiled s a.time used next p _ c.missing-missing.ensures c.if-missing-gt0.false
+          _ is _ c.close.ensures _ _ f.0 f.1 w.if-is_sound.false
+          _ (ap (λ (o : Outcome). answering c.close.new.p used next o) w.outcome-is))
+    ]

@@ -1,45 +1,37 @@
--- `parts::oversize` meets its contract: each return stands at the limit that is passed there. Assumes nothing.
-use Prim.Native.Nat.{ℕ, ◌+◌, ◌<◌}
-use native.Mathlib.Omega.{arith}
-use mathlib.Core.Path.{refl}
-use Rattle.laws.specs.Rows.{yes, no, lt, ge, branched, ◌=?◌}
+-- `parts::oversize` meets its contract: a sum that does not fit is above the sample's limit, as what it is cut to. Assumes nothing.
+use Rattle.std.proofs.Common.{ℕ, ◌+◌, ◌<◌, min, Bool, true, false, ◌≡◌, refl, sym, ◌∙◌, arith}
+use Rattle.laws.specs.Rows.{◌⇒◌⁏◌, ◌or◌, ◌and◌, ◌<?◌, ◌=?◌, yes, no, lt, ge-of, lt_of}
+use Rattle.paper.specs.Limits.{sample_most}
+use Rattle.unit.specs.declared.Part.{Part}
+use Rattle.sample.specs.declared.Place.{Place}
 use Rattle.sample.specs.Place.{oversize}
+use Rattle.parts.proofs.Rows.{told-twice, or_true}
 use Rattle.parts.proofs.oversize.Goals as goal
 
-above-first : (m a b : ℕ) → m < a → m < a + b
-above-first m a b h = omega arith
+-- refusal 5 over a sum that is cut to what fits
+too_much : (p : Place) (x : Part) (n sum : ℕ) → sum ≡ min (p.filled + n) 18446744073709551615
+    → ((sample_most <? sum or x.kind =? 2 and (sample_most <? x.slen or x.slen <? sum)) or p.told and p.slen <? sum) ≡ oversize p x n
+unfolding oversize ◌⇒◌⁏◌
+too_much p x n sum e = go (sample_most <? sum) refl
+  where
+    go : (b : Bool) → (sample_most <? sum) ≡ b
+        → ((sample_most <? sum or x.kind =? 2 and (sample_most <? x.slen or x.slen <? sum)) or p.told and p.slen <? sum) ≡ oversize p x n
+    go true h =
+        let many : sample_most < p.filled + n = let k = lt_of sample_most sum h in omega arith in
+        rw h (sym (or_true (x.kind =? 2 and sample_most <? x.slen) (sample_most <? p.filled + n) _ (lt sample_most (p.filled + n) many)))
+    go false h =
+        let few = ge-of sample_most sum h in
+        let is : sum ≡ p.filled + n = omega arith in
+        rw is (told-twice (x.kind =? 2) (sample_most <? x.slen) (sample_most <? p.filled + n) (x.slen <? p.filled + n) (p.told and p.slen <? p.filled + n))
 
-above-second : (m a b : ℕ) → m < b → m < a + b
-above-second m a b h = omega arith
+pub returns-then-exceeds : goal.returns-then-exceeds
+returns-then-exceeds c = yes _ _ (sym c.exceeds.ensures ∙ c.if-exceeds.true) c.if-exceeds.true ∙ too_much _ _ _ _ c.saturating_add-sum.ensures
 
-pub returns-then-below : goal.returns-then-below
-unfolding oversize ◌=?◌
-returns-then-below c = yes _ _ (branched _ _ _ c.below.ensures c.if-below.true) refl
+pub returns-then-p : goal.returns-then-p
+unfolding ◌<?◌
+returns-then-p c =
+    no _ _ (sym c.exceeds.ensures ∙ c.if-exceeds.false) (yes _ _ c.if-p.true refl) ∙ too_much _ _ _ _ c.saturating_add-sum.ensures
 
-pub returns-then-p-gt-SAMPLE_MOST : goal.returns-then-p-gt-SAMPLE_MOST
-unfolding oversize ◌=?◌
-returns-then-p-gt-SAMPLE_MOST c =
-    no _ _ (branched _ _ _ c.below.ensures c.if-below.false) (yes _ _ (lt _ _ (above-first _ _ _ c.if-p-gt-SAMPLE_MOST.true)) refl)
-
-pub returns-then-n-gt-SAMPLE_MOST : goal.returns-then-n-gt-SAMPLE_MOST
-unfolding oversize ◌=?◌
-returns-then-n-gt-SAMPLE_MOST c =
-    no _ _ (branched _ _ _ c.below.ensures c.if-below.false) (yes _ _ (lt _ _ (above-second _ _ _ c.if-n-gt-SAMPLE_MOST.true)) refl)
-
-pub returns-then-sum-gt-SAMPLE_MOST : goal.returns-then-sum-gt-SAMPLE_MOST
-unfolding oversize ◌=?◌
-returns-then-sum-gt-SAMPLE_MOST c =
-    no _ _ (branched _ _ _ c.below.ensures c.if-below.false) (yes _ _ (lt _ _ c.if-sum-gt-SAMPLE_MOST.true) refl)
-
-pub returns-then-below-2 : goal.returns-then-below-2
-unfolding oversize ◌=?◌
-returns-then-below-2 c =
-    no _ _ (branched _ _ _ c.below.ensures c.if-below.false)
-    (no _ _ (ge _ _ c.if-sum-gt-SAMPLE_MOST.false) (yes _ _ (branched _ _ _ c.below-2.ensures c.if-below-2.true) refl))
-
-pub returns : goal.returns
-unfolding oversize ◌=?◌
-returns c =
-    no _ _ (branched _ _ _ c.below.ensures c.if-below.false)
-    (no _ _ (ge _ _ c.if-sum-gt-SAMPLE_MOST.false)
-    (no _ _ (branched _ _ _ c.below-2.ensures c.if-below-2.false) c.below-3.ensures))
+pub returns-else-p : goal.returns-else-p
+returns-else-p c =
+    no _ _ (sym c.exceeds.ensures ∙ c.if-exceeds.false) (no _ _ c.if-p.false c.if-p.false) ∙ too_much _ _ _ _ c.saturating_add-sum.ensures

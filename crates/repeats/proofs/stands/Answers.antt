@@ -1,24 +1,20 @@
 -- `repeats::stands` meets its contract: each return stands at what is compared there. Assumes nothing.
-use mathlib.Core.Path.{refl, sym, ◌∙◌}
-use Rattle.laws.specs.Rows.{yes, no, eq, ne, branched}
-use Rattle.sample.specs.Head.{has-any}
+use Rattle.std.proofs.Common.{refl, sym, ◌∙◌}
+use Rattle.laws.specs.Rows.{yes, no, eq, ne, ◌=?◌}
 use Rattle.sample.specs.Place.{stands}
+use Rattle.repeats.proofs.Same.{same_is}
 use Rattle.repeats.proofs.stands.Goals as goal
 
-pub returns-then-at-kind : goal.returns-then-at-kind
+pub returns-then-p-k : goal.returns-then-p-k
 unfolding stands
-returns-then-at-kind c =
-    let k = c.less-k.ensures in
-    yes _ _ (sym (has-any _ _ _ _ _ _) ∙ branched _ _ _ c.has.ensures c.if-has.true)
-    (yes _ _ (eq _ _ (rw (← k) (sym c.at.ensures ∙ c.if-at-kind.true)))
-    (rw (← k, ← c.at-start.ensures, ← c.at-len.ensures, ← c.cut.ensures) c.same.ensures))
+returns-then-p-k c =
+    yes _ _ (sym c.has.ensures ∙ c.if-not-has.false)
+    (yes _ _ (eq _ _ c.if-p-k.true) (c.eq.ensures ∙ rw c.cut.ensures (same_is _ _)))
 
-pub returns-else-at-kind : goal.returns-else-at-kind
-unfolding stands
-returns-else-at-kind c =
-    yes _ _ (sym (has-any _ _ _ _ _ _) ∙ branched _ _ _ c.has.ensures c.if-has.true)
-    (no _ _ (ne _ _ (λ e. c.if-at-kind.false (c.at.ensures ∙ rw c.less-k.ensures e))) refl)
+pub returns-else-p-k : goal.returns-else-p-k
+unfolding stands ◌=?◌
+returns-else-p-k c = yes _ _ (sym c.has.ensures ∙ c.if-not-has.false) (no _ _ (ne _ _ c.if-p-k.false) (ne _ _ c.if-p-k.false))
 
-pub returns-else-has : goal.returns-else-has
+pub returns-then-not-has : goal.returns-then-not-has
 unfolding stands
-returns-else-has c = no _ _ (sym (has-any _ _ _ _ _ _) ∙ branched _ _ _ c.has.ensures c.if-has.false) refl
+returns-then-not-has c = no _ _ (sym c.has.ensures ∙ c.if-not-has.true) refl

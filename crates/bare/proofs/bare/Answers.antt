@@ -1,8 +1,0 @@
--- `bare::bare` meets its contract. Assumes nothing.
-use mathlib.Core.Path.{refl}
-use Rattle.sample.specs.Place.{bare}
-use Rattle.bare.proofs.bare.Goals as goal
-
-pub returns : goal.returns
-unfolding bare
-returns c = refl
