@@ -2,14 +2,14 @@
 use Rattle.std.proofs.Common.{refl, sym, ◌∙◌}
 use Rattle.laws.specs.Rows.{yes, no, eq, ne, ◌=?◌}
 use Rattle.sample.specs.Place.{stands}
-use Rattle.repeats.proofs.Same.{same_is}
+use Rattle.octets.specs.Same.{same_pairs}
 use Rattle.repeats.proofs.stands.Goals as goal
 
 pub returns-then-p-k : goal.returns-then-p-k
 unfolding stands
 returns-then-p-k c =
     yes _ _ (sym c.has.ensures ∙ c.if-not-has.false)
-    (yes _ _ (eq _ _ c.if-p-k.true) (c.eq.ensures ∙ rw c.cut.ensures (same_is _ _)))
+    (yes _ _ (eq _ _ c.if-p-k.true) (c.eq.ensures ∙ rw c.cut.ensures (same_pairs _ _)))
 
 pub returns-else-p-k : goal.returns-else-p-k
 unfolding stands ◌=?◌
