@@ -8,29 +8,27 @@ ghost use Rattle.answers.specs.Answers.{time_row, answer_row};
 
 use paper::{Answer, Facts, Outcome, Time};
 
+// The numbers that hold the row of any answer.
+pub const ROW_MOST: usize = 10;
+
 fn put_facts(row: &mut [u64], f: Facts)
     ensures { row.new ≡ sets row.old 4 (facts_of f) }
 {
-    numbers::put_at(row, 4, f.time as usize);
-    numbers::put_at(row, 5, f.u);
-    numbers::put_at(row, 6, f.sidx);
-    numbers::put_at(row, 7, f.sdur);
-    numbers::put_at(row, 8, f.string);
-    numbers::put_at(row, 9, f.sample);
+    numbers::put_all(
+        row,
+        4,
+        &[f.time as usize, f.u, f.sidx, f.sdur, f.string, f.sample],
+    );
 }
 
 fn put_values(row: &mut [u64], outcome: Outcome)
     ensures { row.new ≡ sets row.old 4 (values_of outcome) }
 {
     match outcome {
-        Outcome::Whole(f) => put_facts(row, f),
-        Outcome::Joined(f) => put_facts(row, f),
-        Outcome::Kept(n) => numbers::put_at(row, 4, n),
-        Outcome::Skipped(t) => numbers::put_at(row, 4, t),
+        Outcome::Whole(f) | Outcome::Joined(f) => put_facts(row, f),
+        Outcome::Kept(n) | Outcome::Skipped(n) => numbers::put_at(row, 4, n),
         Outcome::Refused(r) => numbers::put_at(row, 4, usize::from(r)),
-        Outcome::End => {}
-        Outcome::Repeat => {}
-        Outcome::Described => {}
+        Outcome::End | Outcome::Repeat | Outcome::Described => {}
     }
 }
 
@@ -38,14 +36,8 @@ fn put_time(row: &mut [u64], t: Time)
     ensures { row.new ≡ sets row.old 1 (time_row t) }
 {
     match t {
-        Some(time) => {
-            numbers::put_at(row, 1, 1);
-            numbers::put_at(row, 2, time as usize);
-        }
-        None => {
-            numbers::put_at(row, 1, 0);
-            numbers::put_at(row, 2, 0);
-        }
+        Some(time) => numbers::put_all(row, 1, &[1, time as usize]),
+        None => numbers::put_all(row, 1, &[0, 0]),
     }
 }
 
@@ -53,11 +45,9 @@ fn put_time(row: &mut [u64], t: Time)
 pub fn put_answer(row: &mut [u64], a: Answer) -> usize
     ensures { (result ≡ a.used) × (row.new ≡ sets row.old 0 (answer_row a)) }
 {
-    let outcome = a.outcome;
-    let next = a.next;
     numbers::put_at(row, 0, a.used);
-    put_time(row, next);
-    numbers::put_at(row, 3, outcome.kind());
-    put_values(row, outcome);
+    put_time(row, a.next);
+    numbers::put_at(row, 3, a.outcome.kind());
+    put_values(row, a.outcome);
     a.used
 }

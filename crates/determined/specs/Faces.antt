@@ -88,6 +88,9 @@ hall-give-up h who =
 pub numbers-put-at : (row : List ℕ) (i v : ℕ) → Determines (λ (l : List ℕ). l ≡ set row i v)
 numbers-put-at row i v = equation (set row i v)
 
+pub numbers-put-all : (row : List ℕ) (at : ℕ) (vs : List ℕ) → Determines (λ (l : List ℕ). l ≡ sets row at vs)
+numbers-put-all row at vs = equation (sets row at vs)
+
 pub numbers-put-checked : (row : List ℕ) (c : Checked) → Determines (λ (l : List ℕ). l ≡ sets row 0 (checked_row c))
 numbers-put-checked row c = equation (sets row 0 (checked_row c))
 

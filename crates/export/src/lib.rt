@@ -37,7 +37,7 @@ pub fn spindlefig_output() -> usize
 pub fn spindlefig_row() -> usize
     ensures { result ≡ row_most }
 {
-    10
+    answers::ROW_MOST
 }
 
 // What n desks need, in elements; 0 where n is not 1 to 8.
@@ -76,7 +76,7 @@ pub fn spindlefig_set_up(
     ensures { SetsUpAs n (lent places rows marks stores) result }
 {
     let s = relay::set_up(n, places, rows, marks, stores);
-    numbers::started_number(s)
+    numbers::number_of_result(s)
 }
 
 // Takes the unit at the front of the rest, at the running time: unknown where `known` is 0, and `time` is not looked at. Answers the bytes
@@ -112,7 +112,7 @@ pub fn spindlefig_give_up(
 {
     let who = numbers::name_of(desk, time);
     let g = relay::give_up(places, rows, marks, who);
-    numbers::given_up_number(g)
+    numbers::number_of_result(g)
 }
 
 // Writes the description that an index shows to the front of the output, and answers its length; 0 where there is none.
@@ -184,8 +184,7 @@ pub fn spindlefig_box(modifiers: &[u8], at: usize, row: &mut [u64])
         (stepped_row (step_of modifiers.now at).next (step_of modifiers.now at).found) }
 {
     let s = boxes::step(modifiers, at);
-    let found = s.found;
-    numbers::put_stepped(row, s.next, found);
+    numbers::put_stepped(row, s.next, s.found);
 }
 
 // The length of the character at a place, and 0 where none is well-formed.

@@ -12,7 +12,7 @@ use paper::{Name, Refusal, Sender, Time};
 use style::BadRecord;
 use writer::Payload;
 
-// Stores a number in a row; past the end, nothing.
+// Stores a number in a row; past the end, nothing. By an index: the proof with `get_mut` did not close, since it says nothing of the rest.
 pub fn put_at(row: &mut [u64], i: usize, v: usize)
     ensures { row.new ≡ set row.old i v }
 {
@@ -21,26 +21,21 @@ pub fn put_at(row: &mut [u64], i: usize, v: usize)
     }
 }
 
-fn put_two(row: &mut [u64], a: usize, b: usize)
-    ensures { row.new ≡ sets row.old 0 (a ∷ b ∷ []) }
+// Stores numbers one behind the other from a place on; past the end, nothing.
+pub fn put_all(row: &mut [u64], at: usize, values: &[usize])
+    ensures { row.new ≡ sets row.old at values.now }
 {
-    put_at(row, 0, a);
-    put_at(row, 1, b);
-}
-
-fn put_three(row: &mut [u64], a: usize, b: usize, c: usize)
-    ensures { row.new ≡ sets row.old 0 (a ∷ b ∷ c ∷ []) }
-{
-    put_two(row, a, b);
-    put_at(row, 2, c);
+    for (k, v) in values.iter().enumerate() {
+        put_at(row, at.saturating_add(k), *v);
+    }
 }
 
 pub fn put_checked(row: &mut [u64], c: Result<usize, BadRecord>)
     ensures { row.new ≡ sets row.old 0 (checked_row c) }
 {
     match c {
-        Ok(n) => put_two(row, 0, n),
-        Err(b) => put_two(row, usize::from(b.why), b.at),
+        Ok(n) => put_all(row, 0, &[0, n]),
+        Err(b) => put_all(row, 0, &[usize::from(b.why), b.at]),
     }
 }
 
@@ -48,8 +43,8 @@ pub fn put_written(row: &mut [u64], w: Result<Payload, Refusal>)
     ensures { row.new ≡ sets row.old 0 (written_row w) }
 {
     match w {
-        Ok(Payload { len, count }) => put_three(row, 0, len, count),
-        Err(r) => put_at(row, 0, usize::from(r)),
+        Ok(Payload { len, count }) => put_all(row, 0, &[0, len, count]),
+        Err(r) => put_all(row, 0, &[usize::from(r)]),
     }
 }
 
@@ -57,9 +52,9 @@ pub fn put_stepped(row: &mut [u64], next: usize, f: Result<Option<usize>, Refusa
     ensures { row.new ≡ sets row.old 0 (stepped_row next f) }
 {
     match f {
-        Ok(None) => put_two(row, next, 0),
-        Ok(Some(t)) => put_three(row, next, 1, t),
-        Err(r) => put_three(row, next, 2, usize::from(r)),
+        Ok(None) => put_all(row, 0, &[next, 0]),
+        Ok(Some(t)) => put_all(row, 0, &[next, 1, t]),
+        Err(r) => put_all(row, 0, &[next, 2, usize::from(r)]),
     }
 }
 
@@ -72,33 +67,25 @@ pub fn name_of(desk: usize, time: u32) -> Name
 fn time_of(known: usize, time: u32) -> Time
     ensures { result ≡ time_of known time }
 {
-    if known == 0 {
-        return None;
-    }
-    Some(time)
+    (known != 0).then_some(time)
 }
 
 pub fn sent_by(desk: usize, known: usize, time: u32) -> Sender
     ensures { result ≡ sent_by desk known time }
 {
-    let t = time_of(known, time);
-    Sender { desk, time: t }
-}
-
-pub fn started_number(s: Result<(), Refusal>) -> usize
-    ensures { result ≡ started_number s }
-{
-    match s {
-        Ok(()) => 0,
-        Err(r) => usize::from(r),
+    Sender {
+        desk,
+        time: time_of(known, time),
     }
 }
 
-pub fn given_up_number(g: Result<(), Refusal>) -> usize
-    ensures { result ≡ given_up_number g }
+// What a set-up or a give-up answers as a number: 0, or the refusal.
+pub fn number_of_result(r: Result<(), Refusal>) -> usize
+    ensures started { result ≡ started_number r }
+    ensures given_up { result ≡ given_up_number r }
 {
-    match g {
+    match r {
         Ok(()) => 0,
-        Err(r) => usize::from(r),
+        Err(why) => usize::from(why),
     }
 }

@@ -6,6 +6,7 @@ ghost use Rattle.paper.specs.Limits.{store_size, places, rows_need, marks_need, 
 ghost use Rattle.sizes.specs.Sizes.{place_size, needed};
 
 use paper::limits::{FINISHED_MOST, HEAD_SIZE, MARKS_EACH, PLACES_EACH, STORE_SIZE};
+use sample::Place;
 
 // So many for each of n desks; 0 where there is no relay for n desks.
 fn size_for(n: usize, each: usize) -> usize
@@ -22,7 +23,7 @@ fn size_for(n: usize, each: usize) -> usize
 pub fn place() -> usize
     ensures { result ≡ place_size }
 {
-    1472
+    size_of::<Place>()
 }
 
 pub fn places(n: usize) -> usize

@@ -1,11 +1,15 @@
 -- `numbers::time_of` meets its contract. Assumes nothing.
-use native.Mathlib.Omega.{arith}
-use mathlib.Core.Path.{refl}
-use Rattle.laws.specs.Rows.{yes, no, eq, ne}
+use Rattle.std.specs.Prelude.{Bool, true, false, not, Some, None, nat_eq}
+use Rattle.std.proofs.Common.{◌≡◌, refl, ℕ, ◌∙◌}
+use Rattle.std.specs.Bool.{then_some}
+use Rattle.laws.specs.Rows.{◌⇒◌⁏◌, ◌=?◌}
 use Rattle.numbers.proofs.time_of.Goals as goal
 
-pub returns-then-known-eq0 : goal.returns-then-known-eq0
-returns-then-known-eq0 c = yes _ _ (eq _ _ (omega arith)) refl
+told : (b : Bool) (t : ℕ) → then_some (not b) t ≡ (b ⇒ None ⁏ Some t)
+unfolding ◌⇒◌⁏◌
+told true t = refl
+told false t = refl
 
 pub returns : goal.returns
-returns c = no _ _ (ne _ _ c.if-known-eq0.false) refl
+unfolding ◌=?◌
+returns c = c.then_some.ensures ∙ told (nat_eq c.args.known 0) c.args.time
