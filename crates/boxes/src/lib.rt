@@ -2,7 +2,7 @@
 #![tactic(auto)]
 
 ghost use Rattle.std.specs.Prelude.{◌≡◌};
-ghost use Rattle.boxes.specs.Step.{refused_at, step_of, contents_of};
+ghost use Rattle.boxes.specs.Step.{step_of, contents_of};
 
 use paper::Refusal;
 
@@ -16,40 +16,26 @@ pub struct Stepped {
 
 const HEADER_SIZE: usize = 8;
 
-fn refused(at: usize) -> Stepped
-    ensures { result ≡ refused_at at }
-{
-    Stepped {
-        found: Err(Refusal::Box),
-        next: at,
-    }
-}
-
+#[tactic(auto, using(laws::specs::Rows::rows), unfolding(crate::specs::Step::step_of))]
 pub fn step(m: &[u8], at: usize) -> Stepped
     ensures { result ≡ step_of m.now at }
 {
-    if m.len() < at {
-        return refused(at);
-    }
     if at == m.len() {
         return Stepped {
             found: Ok(None),
             next: at,
         };
     }
-    let left = m.len() - at;
-    if left < HEADER_SIZE {
-        return refused(at);
-    }
-    let size = octets::number32(m, at);
-    if size < HEADER_SIZE {
-        return refused(at);
-    }
-    if left < size {
-        return refused(at);
+    let left = m.len().saturating_sub(at);
+    let size = octets::number::<4>(m, at);
+    if left < HEADER_SIZE || size < HEADER_SIZE || left < size {
+        return Stepped {
+            found: Err(Refusal::Box),
+            next: at,
+        };
     }
     Stepped {
-        found: Ok(Some(octets::number32(m, at + 4))),
+        found: Ok(Some(octets::number::<4>(m, at + 4))),
         next: at + size,
     }
 }
@@ -58,11 +44,10 @@ pub fn step(m: &[u8], at: usize) -> Stepped
 pub fn contents(m: &[u8], at: usize) -> &[u8]
     ensures { result.now ≡ contents_of m.now at }
 {
-    let found = step(m, at).found;
-    match found {
+    match step(m, at).found {
         Ok(Some(_)) => {
-            let size = octets::number32(m, at);
-            octets::cut(m, at + HEADER_SIZE, octets::less(size, HEADER_SIZE))
+            let size = octets::number::<4>(m, at);
+            octets::cut(m, at + HEADER_SIZE, size.saturating_sub(HEADER_SIZE))
         }
         Ok(None) => octets::cut(m, at, 0),
         Err(_) => octets::cut(m, at, 0),

@@ -12,10 +12,10 @@ fn read_whole(s: &[u8], u: usize, len: usize) -> Unit
     Unit::Whole(Whole {
         u,
         sidx: octets::byte(s, 3),
-        sdur: octets::number24(s, 4),
-        tlen: octets::number16(s, 7),
+        sdur: octets::number::<3>(s, 4),
+        tlen: octets::number::<2>(s, 7),
         start: 9,
-        len: octets::less(len, 8),
+        len: len.saturating_sub(8),
     })
 }
 
@@ -27,12 +27,12 @@ fn read_string(s: &[u8], u: usize, len: usize) -> Unit
         kind: 2,
         total: counts / 16 % 16,
         this: counts % 16,
-        sdur: octets::number24(s, 4),
+        sdur: octets::number::<3>(s, 4),
         u,
         sidx: octets::byte(s, 7),
-        slen: octets::number16(s, 8),
+        slen: octets::number::<2>(s, 8),
         start: 10,
-        len: octets::less(len, 9),
+        len: len.saturating_sub(9),
     })
 }
 
@@ -44,12 +44,12 @@ fn read_modifiers(s: &[u8], kind: usize, len: usize) -> Unit
         kind,
         total: counts / 16 % 16,
         this: counts % 16,
-        sdur: octets::number24(s, 4),
+        sdur: octets::number::<3>(s, 4),
         u: 0,
         sidx: 0,
         slen: 0,
         start: 7,
-        len: octets::less(len, 6),
+        len: len.saturating_sub(6),
     })
 }
 
@@ -59,28 +59,20 @@ fn read_description(s: &[u8], len: usize) -> Unit
     Unit::Description(Description {
         sidx: octets::byte(s, 3),
         start: 4,
-        len: octets::less(len, 3),
+        len: len.saturating_sub(3),
     })
 }
 
 // What the table says of a unit, by its TYPE; whether that keeps to the limits is asked in `reads`.
+#[tactic(auto, using(laws::specs::Rows::rows), unfolding(unit::specs::Layout::fields_of))]
 pub fn read_fields(s: &[u8], u: usize, kind: usize, len: usize) -> Unit
     ensures { result ≡ fields_of s.now u kind len }
 {
-    if kind == 1 {
-        return read_whole(s, u, len);
+    match kind {
+        1 => read_whole(s, u, len),
+        2 => read_string(s, u, len),
+        3 | 4 => read_modifiers(s, kind, len),
+        5 => read_description(s, len),
+        _ => Unit::Skipped(kind),
     }
-    if kind == 2 {
-        return read_string(s, u, len);
-    }
-    if kind == 3 {
-        return read_modifiers(s, 3, len);
-    }
-    if kind == 4 {
-        return read_modifiers(s, 4, len);
-    }
-    if kind == 5 {
-        return read_description(s, len);
-    }
-    Unit::Skipped(kind)
 }

@@ -8,64 +8,38 @@ use paper::Refusal;
 use paper::limits::{IN_BAND, RESERVED};
 use unit::{Description, Part, Reading, Unit, Whole};
 
+#[tactic(auto, using(laws::specs::Rows::rows), unfolding(unit::specs::Layout::least))]
 fn least_len(kind: usize) -> usize
     ensures { result ≡ least kind }
 {
-    if kind == 1 {
-        return 8;
+    match kind {
+        1 => 8,
+        2 => 10,
+        3 | 4 => 7,
+        5 => 4,
+        _ => 0,
     }
-    if kind == 2 {
-        return 10;
-    }
-    if kind == 3 {
-        return 7;
-    }
-    if kind == 4 {
-        return 7;
-    }
-    if kind == 5 {
-        return 4;
-    }
-    0
 }
 
+#[tactic(auto, using(laws::specs::Rows::rows), unfolding(unit::specs::Layout::bad_whole))]
 fn bad_whole(w: Whole) -> bool
     ensures { result ≡ bad_whole w }
 {
-    if w.len < w.tlen {
-        return true;
-    }
-    if w.sidx == RESERVED {
-        return true;
-    }
-    false
+    w.len < w.tlen || w.sidx == RESERVED
 }
 
+#[tactic(auto, using(laws::specs::Rows::rows), unfolding(unit::specs::Layout::bad_part))]
 fn bad_part(w: Part) -> bool
     ensures { result ≡ bad_part w }
 {
-    if w.total == 0 {
-        return true;
-    }
-    if w.this == 0 {
-        return true;
-    }
-    if w.total < w.this {
-        return true;
-    }
-    if w.sidx == RESERVED {
-        return true;
-    }
-    false
+    w.total == 0 || w.this == 0 || w.total < w.this || w.sidx == RESERVED
 }
 
+#[tactic(auto, using(laws::specs::Rows::rows), unfolding(unit::specs::Layout::bad_description))]
 fn bad_description(w: Description) -> bool
     ensures { result ≡ bad_description w }
 {
-    if IN_BAND - 1 < w.sidx {
-        return true;
-    }
-    false
+    IN_BAND <= w.sidx
 }
 
 fn bad_fields(x: Unit) -> bool
@@ -75,41 +49,30 @@ fn bad_fields(x: Unit) -> bool
         Unit::Whole(w) => bad_whole(w),
         Unit::Part(w) => bad_part(w),
         Unit::Description(w) => bad_description(w),
-        Unit::End => false,
-        Unit::Skipped(_) => false,
-        Unit::Refused(_) => false,
+        Unit::End | Unit::Skipped(_) | Unit::Refused(_) => false,
     }
 }
 
+#[tactic(auto, using(laws::specs::Rows::rows), unfolding(unit::specs::Layout::broken))]
 fn is_broken(rest: &[u8]) -> bool
     ensures { result ≡ broken rest.now }
 {
     let n = rest.len();
-    if n < 3 {
-        return true;
-    }
-    let len = octets::number16(rest, 1);
-    if len < 2 {
-        return true;
-    }
-    if n < 1 + len {
-        return true;
-    }
-    false
+    let len = octets::number::<2>(rest, 1);
+    n < 3 || len < 2 || n < 1 + len
 }
 
+#[tactic(auto, using(laws::specs::Rows::rows), unfolding(unit::specs::Layout::judged))]
 fn judge(kind: usize, len: usize, x: Unit) -> Unit
     ensures { result ≡ judged kind len x }
 {
-    if len < least_len(kind) {
-        return Unit::Refused(Refusal::Fields);
-    }
-    if bad_fields(x) {
+    if len < least_len(kind) || bad_fields(x) {
         return Unit::Refused(Refusal::Fields);
     }
     x
 }
 
+#[tactic(auto, using(laws::specs::Rows::rows), unfolding(unit::specs::Layout::text_judged))]
 fn judge_text(rest: &[u8], x: Unit) -> Unit
     ensures { result ≡ text_judged rest.now x }
 {
@@ -138,7 +101,7 @@ pub fn read(rest: &[u8]) -> Reading
     }
     let head = octets::byte(rest, 0);
     let kind = head % 8;
-    let len = octets::number16(rest, 1);
+    let len = octets::number::<2>(rest, 1);
     let x = judge(kind, len, fields::read_fields(rest, head / 128, kind, len));
     Reading {
         used: 1 + len,

@@ -19,10 +19,7 @@ fn ill_whole(rest: &[u8], w: Whole) -> bool
 fn ill_part(rest: &[u8], w: Part) -> bool
     ensures { result ≡ ill_text rest.now (U.Part w) }
 {
-    if w.kind == 2 {
-        return !strings::well_formed(w.u, octets::cut(rest, w.start, w.len));
-    }
-    false
+    w.kind == 2 && !strings::well_formed(w.u, octets::cut(rest, w.start, w.len))
 }
 
 pub fn is_ill(rest: &[u8], x: Unit) -> bool
@@ -31,9 +28,6 @@ pub fn is_ill(rest: &[u8], x: Unit) -> bool
     match x {
         Unit::Whole(w) => ill_whole(rest, w),
         Unit::Part(w) => ill_part(rest, w),
-        Unit::Description(_) => false,
-        Unit::End => false,
-        Unit::Skipped(_) => false,
-        Unit::Refused(_) => false,
+        Unit::Description(_) | Unit::End | Unit::Skipped(_) | Unit::Refused(_) => false,
     }
 }

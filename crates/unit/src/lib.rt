@@ -15,7 +15,8 @@ pub struct Whole {
     pub len: usize,
 }
 
-// TYPE 2, 3 or 4, by `kind`; in TYPE 3 and 4, which do not have them, u, sidx and slen are 0.
+// TYPE 2, 3 or 4, by `kind`; in TYPE 3 and 4, which do not have them, u, sidx and slen are 0. `kind` is a number, since `put_part` promises
+// what it does with any (unit Head: `modifiers_head`).
 #[derive(Clone, Copy)]
 pub struct Part {
     pub kind: usize,

@@ -21,6 +21,6 @@ returns c =
       c.judge_text.ensures,
       c.judge-x.ensures,
       c.read_fields.ensures,
-      c.number16-len.ensures.0,
+      c.number-len.ensures.0,
       c.byte-head.ensures.0,
     )))

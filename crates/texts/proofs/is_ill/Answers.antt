@@ -1,16 +1,11 @@
 -- `texts::is_ill` meets its contract: a unit of no other kind has text. Assumes nothing.
-use mathlib.Core.Path.{refl, sym}
+use Rattle.std.proofs.Common.{refl, sym, ⊎_elim}
 use Rattle.unit.proofs.Text.{bare-not-ill}
 use Rattle.texts.proofs.is_ill.Goals as goal
 
 pub returns-in-Description : goal.returns-in-Description
-returns-in-Description c = rw c.in-Description.is (sym (bare-not-ill _ _ refl))
-
-pub returns-in-End : goal.returns-in-End
-returns-in-End c = rw c.in-End.is (sym (bare-not-ill _ _ refl))
-
-pub returns-in-Skipped : goal.returns-in-Skipped
-returns-in-Skipped c = rw c.in-Skipped.is (sym (bare-not-ill _ _ refl))
-
-pub returns-in-Refused : goal.returns-in-Refused
-returns-in-Refused c = rw c.in-Refused.is (sym (bare-not-ill _ _ refl))
+returns-in-Description c =
+    ⊎_elim (λ d. rw d.1 (sym (bare-not-ill _ _ refl)))
+    (⊎_elim (λ e. rw e (sym (bare-not-ill _ _ refl)))
+    (⊎_elim (λ s. rw s.1 (sym (bare-not-ill _ _ refl))) (λ r. rw r.1 (sym (bare-not-ill _ _ refl)))))
+    c.in-Description.is
