@@ -118,7 +118,7 @@ pub fn is_text(r: Reading) -> bool
     matches!(r.unit, Unit::Whole(_) | Unit::Part(_))
 }
 
-// The part that was read, with the bytes that it uses; zeros where it is none.
+// The part that was read, with the bytes that it uses; zeros where it is none. No Option: it can't fail, and `arrival_of` says the zeros.
 pub fn arrived(r: Reading) -> Arrival
     ensures { result ≡ arrival_of r }
 {

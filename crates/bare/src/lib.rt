@@ -44,17 +44,3 @@ pub fn opened(desk: usize, time: u32, x: Part) -> Place
 {
     bare(true, desk, time, x.total, x.sdur)
 }
-
-// The place is free: nothing is kept any more.
-pub fn close(p: &mut Place)
-    ensures { p.new ≡ closed }
-{
-    *p = closed();
-}
-
-// The place is that of the sample that part x opens, nothing kept yet.
-pub fn open(p: &mut Place, desk: usize, time: u32, x: Part)
-    ensures { p.new ≡ opened desk time x }
-{
-    *p = opened(desk, time, x);
-}

@@ -35,7 +35,7 @@ pub fn open(
     match asks::find_bar(late, parts::is_too_much(x, d.len()), h) {
         Err(why) => Outcome::Refused(why),
         Ok(()) => {
-            bare::open(p, desk, time, x);
+            *p = bare::opened(desk, time, x);
             keeps::keep(p, x, d);
             Outcome::Kept(keeps::missing(p))
         }

@@ -50,7 +50,7 @@ pub fn complete(
     } else {
         Outcome::Refused(Refusal::Spoiled)
     };
-    bare::close(p);
+    *p = bare::closed();
     finish(row, marks, time);
     outcome
 }

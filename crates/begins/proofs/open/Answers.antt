@@ -18,7 +18,7 @@ pub returns-in-Ok : goal.returns-in-Ok
 returns-in-Ok c = λ used next store out.
     let a = c.args in
     let new = opened a.desk a.time a.x in
-    let is : c.keep.new.p ≡ kept new a.x a.d.now = c.keep.ensures ∙ ap (λ (p : Place). kept p a.x a.d.now) c.open.ensures in
+    let is : c.keep.new.p ≡ kept new a.x a.d.now = c.keep.ensures ∙ ap (λ (p : Place). kept p a.x a.d.now) c.opened.ensures in
     rw (c.missing.ensures, is)
     (laid-new a.p.now c.requires.0 (says used next (O.Kept (missing (kept new a.x a.d.now)))) a.row.now a.marks.now store out _
     _ (used-new a.desk a.time a.x a.d.now)

@@ -26,11 +26,11 @@ returns c = λ q used next store.
     elim c.if-is_sound.branch [
       | then-is_sound w ↦
           kept-joined s a.time used next p _ c.missing-missing.ensures c.if-missing-gt0.false
-          _ is _ c.close.ensures _ _ f.0 f.1 w.if-is_sound.true _ _ n.0 n.1 _ (w.out-is ∙ w.put_together.ensures)
-          _ (ap (λ (o : Outcome). answering c.close.new.p used next o) w.outcome-is)
+          _ is _ c.closed.ensures _ _ f.0 f.1 w.if-is_sound.true _ _ n.0 n.1 _ (w.out-is ∙ w.put_together.ensures)
+          _ (ap (λ (o : Outcome). answering c.closed.result used next o) w.outcome-is)
       | else-is_sound w ↦
           rw w.out-is
           (kept-spoiled s a.time used next p _ c.missing-missing.ensures c.if-missing-gt0.false
-          _ is _ c.close.ensures _ _ f.0 f.1 w.if-is_sound.false
-          _ (ap (λ (o : Outcome). answering c.close.new.p used next o) w.outcome-is))
+          _ is _ c.closed.ensures _ _ f.0 f.1 w.if-is_sound.false
+          _ (ap (λ (o : Outcome). answering c.closed.result used next o) w.outcome-is))
     ]
