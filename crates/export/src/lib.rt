@@ -18,6 +18,7 @@ ghost use Rattle.export.specs.Export.{SetsUpAs, ReceivesAs, GivesUpAs, wrote, wr
 
 use paper::limits::SAMPLE_MOST;
 use sample::Place;
+use writer::Sample;
 
 // The bytes of a place.
 pub fn spindlefig_place_size() -> usize
@@ -156,10 +157,14 @@ pub fn spindlefig_write(
         ≡ written_as (written (caption u sidx sdur string.now modifiers.now) m k out.old)
         row.old }
 {
-    numbers::put_written(
-        row,
-        writes::write_sample(u, sidx, sdur, string, modifiers, m, k, out),
-    );
+    let c = Sample {
+        u,
+        sidx,
+        sdur,
+        string,
+        modifiers,
+    };
+    numbers::put_written(row, writes::write_sample(&c, m, k, out));
 }
 
 // Writes the payload of a description.

@@ -13,18 +13,12 @@ fn turn(number: usize, f: PartFound, e: usize, next: usize) -> PartFound
     ensures { result ≡ turned number f e next }
 {
     let count = f.count + 1;
-    if count == number {
-        return PartFound {
-            count,
-            from: e,
-            to: next,
-        };
-    }
-    PartFound {
-        count,
-        from: f.from,
-        to: f.to,
-    }
+    let (from, to) = if count == number {
+        (e, next)
+    } else {
+        (f.from, f.to)
+    };
+    PartFound { count, from, to }
 }
 
 // Passes over the string part by part, each as long as possible within k bytes: counts the parts, and finds the one of the number.

@@ -3,7 +3,7 @@ use crate::{print, script};
 use paper::Refusal;
 use std::io;
 use std::io::Print;
-use writer::Payload;
+use writer::{Payload, Sample};
 
 const LETTERS: [u8; 30] = *b"abcdefghijklmnopqrstuvwxyzabcd";
 // one, two, three and four bytes a character
@@ -50,22 +50,27 @@ fn case(
     let mut modifiers = [0u8; 1100];
     fill(&mut modifiers, &MODIFIERS);
     let mut out = [0xaau8; 1402];
-    let w = writes::write_sample(
+    let c = Sample {
         u,
-        128,
-        90000,
-        octets::cut(&string, 0, n),
-        octets::cut(&modifiers, 0, more),
-        m,
-        k,
-        &mut out,
-    );
+        sidx: 128,
+        sdur: 90000,
+        string: octets::cut(&string, 0, n),
+        modifiers: octets::cut(&modifiers, 0, more),
+    };
+    let w = writes::write_sample(&c, m, k, &mut out);
     tell(rt, w, &out)
 }
 
 // Eight letters that just fit the size limit.
 fn fields(rt: &impl Print, sidx: usize, sdur: usize, out: &mut [u8]) -> io::Result<()> {
-    let w = writes::write_sample(0, sidx, sdur, b"abcdefgh", b"", 17, 1, out);
+    let c = Sample {
+        u: 0,
+        sidx,
+        sdur,
+        string: b"abcdefgh",
+        modifiers: b"",
+    };
+    let w = writes::write_sample(&c, 17, 1, out);
     tell(rt, w, out)
 }
 

@@ -4,7 +4,7 @@ use hall::Hall;
 use paper::{Facts, Name, Outcome, Sender, Time};
 use std::io;
 use std::io::Print;
-use writer::Payload;
+use writer::{Payload, Sample};
 
 // The longest payload of the script, and its longest style book.
 const PAYLOAD_MOST: usize = 1040;
@@ -71,7 +71,14 @@ fn send(rt: &impl Print, h: Hall, line: &[u8], text: &[u8]) -> io::Result<Hall> 
     let mut out = [0u8; PAYLOAD_MOST];
     let m = script::number(line, 3);
     let k = script::number(line, 4);
-    match writes::write_sample(0, 128, 50, text, &[], m, k, &mut out) {
+    let c = Sample {
+        u: 0,
+        sidx: 128,
+        sdur: 50,
+        string: text,
+        modifiers: &[],
+    };
+    match writes::write_sample(&c, m, k, &mut out) {
         Ok(Payload { len, .. }) => receive(
             rt,
             h,

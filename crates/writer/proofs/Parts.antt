@@ -1,7 +1,9 @@
 -- Laws of cutting: one part at a time, all of them, and the blocks of one length. Assumes nothing.
-use Prim.Native.Nat.{ℕ, zero, suc, ◌+◌, ◌-◌, ◌*◌, ◌/◌, ◌≤◌, ◌<◌, min}
+use Prim.Native.Nat.{ℕ, zero, suc, ◌+◌, ◌-◌, ◌*◌, ◌/◌, ◌%◌, ◌≤◌, ◌<◌, min}
 use Rattle.std.proofs.Common.{arith, ◌∙◌, drop-drop}
-use Rattle.std.proofs.Math.Nat.{div-eq-sub-div, div-eq_of_lt}
+use Rattle.std.proofs.Math.Nat.{div-eq-sub-div, div-eq_of_lt, mod-lt}
+use Rattle.std.proofs.lemmas.Nat.{div-add-mod', div-mul-add}
+use Rattle.std.specs.Int.{div_ceil}
 use Rattle.std.specs.Prelude.{◌≡◌, Bool, true, drop, get_or}
 use Rattle.std.proofs.Math.Path.{refl, sym, ap}
 use Rattle.std.proofs.Math.Bool.{false}
@@ -133,3 +135,16 @@ module _ (k : ℕ) (some : 0 < k) where
       ap (λ (l : List (List ℕ)). get_or l (suc j) []) t
       ∙ block_at j (drop k s) (omega (arith, ap (length {A = List ℕ}) t))
       ∙ ap (take k) (drop-drop (j * k) k s ∙ ap (λ (n : ℕ). drop n s) q)
+
+-- n divided by k and rounded up
+pub ceil-is : (n k : ℕ) → 0 < k → div_ceil n k ≡ (n + (k - 1)) / k
+ceil-is n k some = go (dec_lt 0 (n % k))
+  where
+    go : Dec (0 < n % k) → div_ceil n k ≡ (n + (k - 1)) / k
+    go (no z) =
+        let q : n + (k - 1) ≡ n / k * k + (k - 1) = omega (arith, div-add-mod' n k) in
+        rw (q, div-mul-add (n / k) k (k - 1) (omega arith)) (omega arith)
+    go (yes h) =
+        let l = mod-lt n some in
+        let q : n + (k - 1) ≡ (n / k + 1) * k + (n % k - 1) = omega (arith, div-add-mod' n k) in
+        rw (q, div-mul-add (n / k + 1) k (n % k - 1) (omega arith)) (omega arith)

@@ -1,6 +1,5 @@
 -- What each answer of the writer says: of a payload, that its bytes are what the writer leaves; of 12, 13 and 14, that each is given
 -- exactly when the paper says. Assumes nothing.
-use Rattle.writer.specs.Written.{packed}
 use Rattle.std.specs.Prelude.{ℕ, ◌≤◌, ◌<◌, ◌≡◌, List, length, take, drop}
 use Rattle.paper.specs.Limits.{description_most, in_band, size_least, size_most}
 use Rattle.unit.specs.Layout.{description}

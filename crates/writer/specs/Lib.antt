@@ -2,6 +2,7 @@ pub mod Written
 pub mod Cut
 pub mod Find
 pub mod Write
+pub mod Lent
 pub mod Returns
 pub mod Cuts
 pub mod Cutting

@@ -2,37 +2,25 @@
 #![tactic(auto)]
 
 ghost use Rattle.std.specs.Prelude.{◌≡◌};
-ghost use Rattle.writer.specs.Write.{caption, after, written};
+ghost use Rattle.writer.specs.Write.{after, written};
+ghost use Rattle.writer.specs.Lent.{caption_of};
 
 use paper::Refusal;
-use writer::Payload;
+use writer::{Payload, Sample};
 
 // Writes payload `number` of a sample for the size limit m.
-pub fn write_sample(
-    u: usize,
-    sidx: usize,
-    sdur: usize,
-    string: &[u8],
-    modifiers: &[u8],
-    m: usize,
-    number: usize,
-    out: &mut [u8],
-) -> Result<Payload, Refusal>
-    ensures { after result out.new
-        ≡ written (caption u sidx sdur string.now modifiers.now) m number out.old }
+pub fn write_sample(c: &Sample, m: usize, number: usize, out: &mut [u8]) -> Result<Payload, Refusal>
+    ensures { after result out.new ≡ written (caption_of c.now) m number out.old }
 {
-    if allows::is_unwritable(u, sidx, sdur, string, modifiers, m, out.len()) {
+    if allows::is_unwritable(c, m, out.len()) {
         return Err(Refusal::Writer);
     }
-    if m < string.len() + modifiers.len() + 9 {
-        return cuts::write_cut(u, sidx, sdur, string, modifiers, m, number, out);
+    if m < c.slen() + 9 {
+        return cuts::write_cut(c, m, number, out);
     }
-    if number == 0 {
+    if number != 1 {
         return Err(Refusal::Payload);
     }
-    if 1 < number {
-        return Err(Refusal::Payload);
-    }
-    let len = lays::write_whole(u, sidx, sdur, string, modifiers, out);
+    let len = lays::write_whole(c, out);
     Ok(Payload { len, count: 1 })
 }

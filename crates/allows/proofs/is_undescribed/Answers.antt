@@ -1,22 +1,15 @@
--- `allows::is_undescribed` meets its contract: each return stands at the ground of refusal 12 that holds there. Assumes nothing.
-use native.Mathlib.Omega.{arith}
-use mathlib.Core.Path.{refl}
-use Rattle.laws.specs.Rows.{yes, no, lt, ge, eq, ne}
+-- `allows::is_undescribed` meets its contract: the grounds of refusal 12. Assumes nothing.
+use Rattle.std.proofs.Common.{arith}
+use Rattle.std.proofs.lemmas.Bool.Decides.{nat_tests}
+use Rattle.std.proofs.lemmas.Grind.{common_steps}
+use Rattle.laws.specs.Rows.{◌⇒◌⁏◌, ◌<?◌, ◌=?◌}
 use Rattle.writer.specs.Write.{undescribed}
 use Rattle.allows.proofs.is_undescribed.Goals as goal
 
-pub returns-then-sidx : goal.returns-then-sidx
-unfolding undescribed
-returns-then-sidx c = yes _ _ (lt _ _ (omega arith)) refl
+pub returns-then-not-contains : goal.returns-then-not-contains
+unfolding undescribed ◌⇒◌⁏◌ ◌<?◌ ◌=?◌
+returns-then-not-contains c = grind (arith, nat_tests, common_steps)
 
-pub returns-then-n-eq0 : goal.returns-then-n-eq0
-unfolding undescribed
-returns-then-n-eq0 c = no _ _ (ge _ _ (omega arith)) (yes _ _ (eq _ _ (omega arith)) refl)
-
-pub returns-then-n-gt-DESCRIPTION_MOST : goal.returns-then-n-gt-DESCRIPTION_MOST
-unfolding undescribed
-returns-then-n-gt-DESCRIPTION_MOST c = no _ _ (ge _ _ (omega arith)) (no _ _ (ne _ _ (λ h. omega arith)) (yes _ _ (lt _ _ (omega arith)) refl))
-
-pub returns : goal.returns
-unfolding undescribed
-returns c = no _ _ (ge _ _ (omega arith)) (no _ _ (ne _ _ (λ h. omega arith)) (no _ _ (ge _ _ (omega arith)) c.is_unsized.ensures))
+pub returns-else-not-contains : goal.returns-else-not-contains
+unfolding undescribed ◌⇒◌⁏◌ ◌<?◌ ◌=?◌
+returns-else-not-contains c = grind (arith, nat_tests, common_steps)

@@ -1,20 +1,15 @@
--- `allows::is_unsized` meets its contract: each return stands at the limit that is passed there. Assumes nothing.
-use Rattle.laws.specs.Rows.{rows}
+-- `allows::is_unsized` meets its contract: the limit is out of range, or the output shorter. Assumes nothing.
+use Rattle.std.proofs.Common.{arith}
+use Rattle.std.proofs.lemmas.Bool.Decides.{nat_tests}
+use Rattle.std.proofs.lemmas.Grind.{common_steps}
+use Rattle.laws.specs.Rows.{◌⇒◌⁏◌, ◌<?◌}
 use Rattle.writer.specs.Write.{unsized}
 use Rattle.allows.proofs.is_unsized.Goals as goal
 
-pub returns-then-m-lt-SIZE_LEAST : goal.returns-then-m-lt-SIZE_LEAST
-unfolding unsized
-returns-then-m-lt-SIZE_LEAST c = search rows depth 9
+pub returns-then-not-contains : goal.returns-then-not-contains
+unfolding unsized ◌⇒◌⁏◌ ◌<?◌
+returns-then-not-contains c = grind (arith, nat_tests, common_steps)
 
-pub returns-then-m-gt-SIZE_MOST : goal.returns-then-m-gt-SIZE_MOST
-unfolding unsized
-returns-then-m-gt-SIZE_MOST c = search rows depth 9
-
-pub returns-then-room-m : goal.returns-then-room-m
-unfolding unsized
-returns-then-room-m c = search rows depth 9
-
-pub returns : goal.returns
-unfolding unsized
-returns c = search rows depth 9
+pub returns-else-not-contains : goal.returns-else-not-contains
+unfolding unsized ◌⇒◌⁏◌ ◌<?◌
+returns-else-not-contains c = grind (arith, nat_tests, common_steps)

@@ -1,48 +1,46 @@
 -- `cuts::write_part` meets its contract: each return is one of the laws of a sample whose parts are counted. Assumes nothing.
-use native.Mathlib.Omega.{arith}
-use mathlib.Core.Path.{refl}
-use lib.ListN.{length}
-use Rattle.writer.specs.Write.{caption}
+use Rattle.std.specs.Prelude.{◌<◌, ◌≤◌, ◌≡◌, ◌⊎◌, length}
+use Rattle.std.proofs.Common.{arith, refl, length-append}
+use Rattle.std.proofs.Math.Logic.{⊎_elim}
+use Rattle.std.proofs.lemmas.Bool.Decides.{nat_tests}
+use Rattle.std.proofs.lemmas.Grind.{common_steps}
+use Rattle.writer.specs.Lent.{caption_of}
 use Rattle.writer.proofs.Returns.{writable}
 use Rattle.writer.proofs.Cuts.{cut-none, cut-past, cut-string, cut-block}
 use Rattle.cuts.proofs.write_part.Goals as goal
 
-pub returns-then-number-eq0 : goal.returns-then-number-eq0
-returns-then-number-eq0 c =
+pub returns-then-not-contains : goal.returns-then-not-contains
+returns-then-not-contains c =
     let a = c.args in
-    let z = caption a.u a.sidx a.sdur a.string.now a.modifiers.now in
-    cut-none z a.m a.number a.out.now a.f a.total c.requires c.if-number-eq0.true
+    let z = caption_of a.c.now in
+    let out : (a.n.this ≡ 0) ⊎ ((0 < a.n.this) × (a.n.total < a.n.this)) = grind (arith, nat_tests, common_steps) in
+    ⊎_elim
+    (λ h. cut-none z a.m a.n.this a.out.now a.f a.n.total c.requires h)
+    (λ h. cut-past z a.m a.n.this a.out.now a.f a.n.total c.requires h.0 h.1) out
 
-pub returns-then-total-number : goal.returns-then-total-number
-returns-then-total-number c =
-    let a = c.args in
-    let z = caption a.u a.sidx a.sdur a.string.now a.modifiers.now in
-    cut-past z a.m a.number a.out.now a.f a.total c.requires (omega (arith, c.if-number-eq0.false))
-    c.if-total-number.true
-
-pub returns-then-number-f : goal.returns-then-number-f
-returns-then-number-f c =
-    let a = c.args in
-    let z = caption a.u a.sidx a.sdur a.string.now a.modifiers.now in
-    cut-string z a.m a.number a.out.now a.f a.total c.requires
-    (omega (arith, c.if-number-eq0.false)) c.if-total-number.false
-    c.if-number-f.true _ _ c.send_string-len.ensures
+pub overflow_sub-m : goal.overflow_sub-m
+overflow_sub-m c = omega (arith, (writable _ _ _ c.requires.allowed).least)
 
 pub send_block-len-requires : goal.send_block-len-requires
 send_block-len-requires c =
     let a = c.args in
-    let z = caption a.u a.sidx a.sdur a.string.now a.modifiers.now in
     let p = c.requires in
-    let v = writable z a.m (length a.out.now) p.allowed in
+    let v = writable (caption_of a.c.now) a.m (length a.out.now) p.allowed in
+    let within : a.n.this ≤ a.n.total = grind (arith, nat_tests, common_steps) in
     (omega (arith, p.few), omega (arith, v.most))
 
-pub returns : goal.returns
-returns c =
+pub returns-then-n-f : goal.returns-then-n-f
+returns-then-n-f c =
     let a = c.args in
-    let z = caption a.u a.sidx a.sdur a.string.now a.modifiers.now in
-    cut-block z a.m a.number a.out.now a.f a.total c.requires
-    (omega (arith, c.if-number-eq0.false)) c.if-total-number.false
-    c.if-number-f.false _ refl _ _ c.send_block-len.ensures
+    let some : 0 < a.n.this = grind (arith, nat_tests, common_steps) in
+    let within : a.n.this ≤ a.n.total = grind (arith, nat_tests, common_steps) in
+    cut-string (caption_of a.c.now) a.m a.n.this a.out.now a.f a.n.total c.requires some within c.if-n-f.true _ _
+    (rw length-append at c.send_string-len.ensures)
 
-pub overflow_sub-m : goal.overflow_sub-m
-overflow_sub-m c = omega (arith, (writable _ _ _ c.requires.allowed).least)
+pub returns-else-n-f : goal.returns-else-n-f
+returns-else-n-f c =
+    let a = c.args in
+    let some : 0 < a.n.this = grind (arith, nat_tests, common_steps) in
+    let within : a.n.this ≤ a.n.total = grind (arith, nat_tests, common_steps) in
+    cut-block (caption_of a.c.now) a.m a.n.this a.out.now a.f a.n.total c.requires some within c.if-n-f.false _ refl _ _
+    c.send_block-len.ensures

@@ -1,5 +1,5 @@
 -- `describes::write_description` meets its contract: refusals 12, 13, 14, or the one payload. Assumes nothing.
-use mathlib.Core.Path.{sym, ◌∙◌}
+use Rattle.std.proofs.Common.{sym, ◌∙◌}
 use Rattle.writer.proofs.Returns.{described-12, described-13, described-14, described-payload}
 use Rattle.describes.proofs.write_description.Goals as goal
 
@@ -14,15 +14,15 @@ returns-then-m-d c =
     described-13 a.sidx a.d.now a.m a.number a.out.now (sym c.is_undescribed.ensures ∙ c.if-is_undescribed.false)
     c.if-m-d.true
 
-pub returns-then-number-eq1 : goal.returns-then-number-eq1
-returns-then-number-eq1 c =
+pub returns-then-number-ne1 : goal.returns-then-number-ne1
+returns-then-number-ne1 c =
     let a = c.args in
-    described-payload a.sidx a.d.now a.m a.number a.out.now
-    (sym c.is_undescribed.ensures ∙ c.if-is_undescribed.false)
-    c.if-m-d.false c.if-number-eq1.true _ _ c.lay-len.ensures
+    described-14 a.sidx a.d.now a.m a.number a.out.now
+    (sym c.is_undescribed.ensures ∙ c.if-is_undescribed.false) c.if-m-d.false c.if-number-ne1.true
 
 pub returns : goal.returns
 returns c =
     let a = c.args in
-    described-14 a.sidx a.d.now a.m a.number a.out.now
-    (sym c.is_undescribed.ensures ∙ c.if-is_undescribed.false) c.if-m-d.false c.if-number-eq1.false
+    described-payload a.sidx a.d.now a.m a.number a.out.now
+    (sym c.is_undescribed.ensures ∙ c.if-is_undescribed.false)
+    c.if-m-d.false c.if-number-ne1.false _ _ c.lay-len.ensures

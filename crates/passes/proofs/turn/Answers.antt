@@ -7,6 +7,6 @@ pub returns-then-count-number : goal.returns-then-count-number
 unfolding turned
 returns-then-count-number c = search rows
 
-pub returns : goal.returns
+pub returns-else-count-number : goal.returns-else-count-number
 unfolding turned
-returns c = search rows
+returns-else-count-number c = search rows

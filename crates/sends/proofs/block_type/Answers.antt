@@ -7,6 +7,6 @@ pub returns-then-j-eq0 : goal.returns-then-j-eq0
 unfolding block_type
 returns-then-j-eq0 c = search rows
 
-pub returns : goal.returns
+pub returns-else-j-eq0 : goal.returns-else-j-eq0
 unfolding block_type
-returns c = search rows
+returns-else-j-eq0 c = search rows

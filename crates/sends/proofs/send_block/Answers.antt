@@ -2,4 +2,4 @@
 use Rattle.sends.proofs.send_block.Goals as goal
 
 pub returns : goal.returns
-returns c = rw (c.block_type.ensures, c.block-d.ensures) at c.write_block.ensures
+returns c = rw (c.block_type.ensures, c.block-d.ensures) at c.lay.ensures
