@@ -10,10 +10,7 @@ use paper::limits::RECORD_SIZE;
 pub fn record_at(s: &[u8], i: usize) -> &[u8]
     ensures { result.now ≡ record_at s.now i }
 {
-    if s.len() / RECORD_SIZE < i {
-        return octets::cut(s, 0, 0);
-    }
-    octets::cut(s, RECORD_SIZE * i, RECORD_SIZE)
+    octets::cut(s, RECORD_SIZE.saturating_mul(i), RECORD_SIZE)
 }
 
 // A record's description.

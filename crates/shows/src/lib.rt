@@ -6,18 +6,19 @@ ghost use Rattle.style.specs.Shown.{shown};
 ghost use Rattle.memory.specs.Relay.{looked_up};
 
 use paper::limits::{HEAD_SIZE, IN_BAND, MARKS_EACH, RESERVED, STORE_SIZE};
+use window::Window;
 
-// Shows the description of an index, as a part of the desk's store or of the book.
-pub fn show<'a>(book: &'a [u8], store: &'a [u8], newest: usize, index: usize) -> &'a [u8]
-    ensures { result.now ≡ shown book.now store.now newest index }
+// Shows the description of an index, as a part of the desk's store or of the book; an empty one where there is none, as `shown` has it.
+pub fn show<'a>(book: &'a [u8], w: &Window<'a>, index: usize) -> &'a [u8]
+    ensures { result.now ≡ shown book.now w.now.store.now w.now.newest index }
 {
     if index < IN_BAND {
-        return window::of_store(store, newest, index);
+        w.description_of(index)
+    } else if index < RESERVED {
+        book::of_book(book, index)
+    } else {
+        &book[..0]
     }
-    if index < RESERVED {
-        return book::of_book(book, index);
-    }
-    octets::cut(book, 0, 0)
 }
 
 // Shows a description as a part of the book or of the desk's own store.
@@ -31,16 +32,13 @@ pub fn look_up<'a>(
     ensures { result.now ≡ looked_up marks.now stores.now desk index book.now }
 {
     let n = gate::desks_of(marks);
-    if gate::is_stranger(n, desk) {
-        return octets::cut(book, 0, 0);
-    }
-    if marks.len() < HEAD_SIZE + MARKS_EACH * n {
-        return octets::cut(book, 0, 0);
-    }
-    if stores.len() < STORE_SIZE * n {
-        return octets::cut(book, 0, 0);
+    if gate::is_stranger(n, desk)
+        || marks.len() < HEAD_SIZE + MARKS_EACH * n
+        || stores.len() < STORE_SIZE * n
+    {
+        return &book[..0];
     }
     let store = octets::cut(stores, STORE_SIZE * desk, STORE_SIZE);
     let newest = octets::word(marks, HEAD_SIZE + MARKS_EACH * desk + 1) as usize;
-    show(book, store, newest, index)
+    show(book, &Window { store, newest }, index)
 }

@@ -12,44 +12,32 @@ use paper::limits::{RECORD_SIZE, WINDOW};
 fn put_record(store: &mut [u8], i: usize, r: &[u8])
     ensures { store.new ≡ sets store.old (record_size * i) r.now }
 {
-    if store.len() / RECORD_SIZE < i {
-        return;
-    }
-    octets::put(store, RECORD_SIZE * i, r);
+    octets::put(store, RECORD_SIZE.saturating_mul(i), r);
 }
 
 fn forget_at(store: &mut [u8], newest: usize, new: usize, i: usize)
     ensures { store.new ≡ forgotten_at newest new store.old i }
 {
-    if window::does_stay(newest, new, records::index_at(store, i)) {
-        return;
+    if !window::does_stay(newest, new, records::index_at(store, i)) {
+        put_record(store, i, &[0; RECORD_SIZE]);
     }
-    let blank = [0u8; RECORD_SIZE];
-    put_record(store, i, &blank);
 }
 
 // Blanks every slot whose value does not stay in the window.
 pub fn forget(store: &mut [u8], newest: usize, new: usize)
     ensures { store.new ≡ forgotten newest new store.old }
 {
-    let mut i = 0;
-    while i < WINDOW {
+    for i in 0..WINDOW {
         forget_at(store, newest, new, i);
-        i += 1;
     }
 }
 
 fn record_of(v: usize, d: &[u8]) -> [u8; RECORD_SIZE]
     ensures { result ≡ record_of v d.now }
 {
-    let len = d.len();
-    let head = [
-        (v % 256) as u8,
-        0u8,
-        (len / 256 % 256) as u8,
-        (len % 256) as u8,
-    ];
-    let mut r = [0u8; RECORD_SIZE];
+    let [high, low] = ((d.len() % 65536) as u16).to_be_bytes();
+    let head = [(v % 256) as u8, 0, high, low];
+    let mut r = [0; RECORD_SIZE];
     octets::put(&mut r, 0, &head);
     octets::put(&mut r, 4, d);
     r
@@ -59,6 +47,5 @@ fn record_of(v: usize, d: &[u8]) -> [u8; RECORD_SIZE]
 pub fn put_description(store: &mut [u8], v: usize, d: &[u8])
     ensures { store.new ≡ stored store.old v d.now }
 {
-    let r = record_of(v, d);
-    put_record(store, v % WINDOW, &r);
+    put_record(store, v % WINDOW, &record_of(v, d));
 }

@@ -1,18 +1,15 @@
--- `window::does_carry` meets its contract: each return stands where one of the two conditions decides. Assumes nothing.
-use native.Mathlib.Omega.{arith}
-use mathlib.Core.Path.{refl, sym}
-use Rattle.laws.specs.Rows.{yes, no, lt, ge, eq, ne}
+-- `window::does_carry` meets its contract: the index, and a length that is not 0. Assumes nothing.
+use Rattle.std.proofs.Common.{arith}
+use Rattle.std.proofs.lemmas.Bool.Decides.{nat_tests}
+use Rattle.std.proofs.lemmas.Grind.{common_steps}
+use Rattle.laws.specs.Rows.{◌⇒◌⁏◌, ◌<?◌, ◌=?◌}
 use Rattle.style.specs.Store.{carries}
 use Rattle.window.proofs.does_carry.Goals as goal
 
-pub returns-then-number16-gt0 : goal.returns-then-number16-gt0
-unfolding carries
-returns-then-number16-gt0 c = yes _ _ (eq _ _ (omega arith)) (sym (lt _ _ (omega arith)))
-
 pub returns-then-byte-v : goal.returns-then-byte-v
-unfolding carries
-returns-then-byte-v c = yes _ _ (eq _ _ (omega arith)) (sym (ge _ _ (omega arith)))
+unfolding carries ◌⇒◌⁏◌ ◌<?◌ ◌=?◌
+returns-then-byte-v c = grind (arith, nat_tests, common_steps)
 
-pub returns : goal.returns
-unfolding carries
-returns c = no _ _ (ne _ _ (λ h. omega arith)) refl
+pub returns-else-byte-v : goal.returns-else-byte-v
+unfolding carries ◌⇒◌⁏◌ ◌<?◌ ◌=?◌
+returns-else-byte-v c = grind (arith, nat_tests, common_steps)

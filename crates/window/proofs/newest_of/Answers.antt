@@ -1,22 +1,15 @@
--- `window::newest_of` meets its contract: each return stands at its row. Assumes nothing.
-use native.Mathlib.Omega.{arith}
-use mathlib.Core.Path.{refl}
-use Rattle.laws.specs.Rows.{yes, no, lt, ge, eq, ne}
+-- `window::newest_of` meets its contract: newest stays, or moves to what is noted. Assumes nothing.
+use Rattle.std.proofs.Common.{arith}
+use Rattle.std.proofs.lemmas.Bool.Decides.{nat_tests}
+use Rattle.std.proofs.lemmas.Grind.{common_steps}
+use Rattle.laws.specs.Rows.{◌⇒◌⁏◌, ◌<?◌, ◌=?◌}
 use Rattle.style.specs.Store.{moved}
 use Rattle.window.proofs.newest_of.Goals as goal
 
-pub returns-then-newest : goal.returns-then-newest
-unfolding moved
-returns-then-newest c = yes _ _ (lt _ _ (omega arith)) refl
+pub returns-then-not-contains : goal.returns-then-not-contains
+unfolding moved ◌⇒◌⁏◌ ◌<?◌ ◌=?◌
+returns-then-not-contains c = grind (arith, nat_tests, common_steps)
 
-pub returns-then-ahead-eq0 : goal.returns-then-ahead-eq0
-unfolding moved
-returns-then-ahead-eq0 c = no _ _ (ge _ _ (omega arith)) (yes _ _ (eq _ _ (omega arith)) refl)
-
-pub returns-then-ahead-gt-WINDOW : goal.returns-then-ahead-gt-WINDOW
-unfolding moved
-returns-then-ahead-gt-WINDOW c = no _ _ (ge _ _ (omega arith)) (no _ _ (ne _ _ (λ h. omega arith)) (yes _ _ (lt _ _ (omega arith)) refl))
-
-pub returns : goal.returns
-unfolding moved
-returns c = no _ _ (ge _ _ (omega arith)) (no _ _ (ne _ _ (λ h. omega arith)) (no _ _ (ge _ _ (omega arith)) refl))
+pub returns-else-newest-lt-IN_BAND : goal.returns-else-newest-lt-IN_BAND
+unfolding moved ◌⇒◌⁏◌ ◌<?◌ ◌=?◌
+returns-else-newest-lt-IN_BAND c = grind (arith, nat_tests, common_steps)
