@@ -6,7 +6,7 @@ use Rattle.std.proofs.Common.{sym, ◌∙◌}
 use Rattle.std.proofs.lemmas.List.Edits.{sets}
 use Rattle.laws.specs.Exactly.{Determines, determined, equation, determined-by-two}
 use Rattle.laws.specs.Region.{part}
-use Rattle.octets.specs.Be.{u8_at, u16_at, u24_at, u32_at, be_at}
+use Rattle.octets.specs.Be.{u8_at, u16_at, u24_at, u32_at, be_at, be_bytes}
 use Rattle.octets.specs.Same as O
 use Rattle.paper.specs.Limits.{parts_most, sample_most}
 use Rattle.paper.specs.declared.Refusal.{Refusal}
@@ -71,6 +71,9 @@ octets-number32 s i = λ x y p q. equation (u32_at s i) x y p.0 q.0
 
 pub octets-number : (n : ℕ) (s : List ℕ) (i : ℕ) → Determines (λ (r : ℕ). (r ≡ be_at n s i) × (r < 256 ^ n))
 octets-number n s i = λ x y p q. equation (be_at n s i) x y p.0 q.0
+
+pub octets-bytes : (n x : ℕ) → Determines (λ (l : List ℕ). l ≡ be_bytes n x)
+octets-bytes n x = equation (be_bytes n x)
 
 pub octets-less : (a b : ℕ) → Determines (λ (r : ℕ). r ≡ a - b)
 octets-less a b = equation (a - b)

@@ -10,38 +10,29 @@ use unit::Part;
 fn put_string(out: &mut [u8], w: Part) -> usize
     ensures { (result ≡ length (string_head w)) × (out.new ≡ sets out.old 0 (string_head w)) }
 {
-    let len = w.len % 65536 + 9;
+    let [len1, len0] = octets::bytes::<2>(w.len % 65536 + 9);
+    let [sdur2, sdur1, sdur0] = octets::bytes::<3>(w.sdur);
+    let [slen1, slen0] = octets::bytes::<2>(w.slen);
+    let first = (w.u % 2 * 128 + 2) as u8;
+    let counts = (w.total % 16 * 16 + w.this % 16) as u8;
+    let sidx = (w.sidx % 256) as u8;
     let head = [
-        (w.u % 2 * 128 + 2) as u8,
-        (len / 256 % 256) as u8,
-        (len % 256) as u8,
-        (w.total % 16 * 16 + w.this % 16) as u8,
-        (w.sdur / 65536 % 256) as u8,
-        (w.sdur / 256 % 256) as u8,
-        (w.sdur % 256) as u8,
-        (w.sidx % 256) as u8,
-        (w.slen / 256 % 256) as u8,
-        (w.slen % 256) as u8,
+        first, len1, len0, counts, sdur2, sdur1, sdur0, sidx, slen1, slen0,
     ];
     octets::put(out, 0, &head);
-    10
+    head.len()
 }
 
 fn put_modifiers(out: &mut [u8], w: Part) -> usize
     ensures { (result ≡ length (modifiers_head w)) × (out.new ≡ sets out.old 0 (modifiers_head w)) }
 {
-    let len = w.len % 65536 + 6;
-    let head = [
-        (w.kind % 8) as u8,
-        (len / 256 % 256) as u8,
-        (len % 256) as u8,
-        (w.total % 16 * 16 + w.this % 16) as u8,
-        (w.sdur / 65536 % 256) as u8,
-        (w.sdur / 256 % 256) as u8,
-        (w.sdur % 256) as u8,
-    ];
+    let [len1, len0] = octets::bytes::<2>(w.len % 65536 + 6);
+    let [sdur2, sdur1, sdur0] = octets::bytes::<3>(w.sdur);
+    let first = (w.kind % 8) as u8;
+    let counts = (w.total % 16 * 16 + w.this % 16) as u8;
+    let head = [first, len1, len0, counts, sdur2, sdur1, sdur0];
     octets::put(out, 0, &head);
-    7
+    head.len()
 }
 
 // TYPE 2 has one header, TYPE 3 and 4 another.
