@@ -60,7 +60,7 @@ pub fn check(book: &[u8]) -> Result<usize, BadRecord>
     Ok(n)
 }
 
-// The description of the first of n records that has the index.
+// The description of the first of n records that has the index; an empty one where none has it, as `entry_from` has it.
 fn entry(book: &[u8], index: usize, n: usize) -> &[u8]
     ensures { result.now ≡ entry_from book.now index 0 n }
 {
@@ -72,7 +72,7 @@ fn entry(book: &[u8], index: usize, n: usize) -> &[u8]
     &book[..0]
 }
 
-// The description of an index in a book; nothing from a book that breaks the rules.
+// The description of an index in a book; an empty one from a book that breaks the rules, as `entry_of` has it.
 pub fn of_book(book: &[u8], index: usize) -> &[u8]
     ensures { result.now ≡ entry_of book.now index (check_of book.now) }
 {
