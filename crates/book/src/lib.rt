@@ -18,7 +18,7 @@ fn is_filled(s: &[u8]) -> bool
 fn is_broken(r: &[u8]) -> bool
     ensures { result ≡ broken r.now }
 {
-    let len = octets::number16(r, 2);
+    let len = octets::number::<2>(r, 2);
     r.len() < RECORD_SIZE
         || !(IN_BAND..RESERVED).contains(&octets::byte(r, 0))
         || 0 < octets::byte(r, 1)

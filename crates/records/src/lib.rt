@@ -17,7 +17,7 @@ pub fn record_at(s: &[u8], i: usize) -> &[u8]
 pub fn description_of(r: &[u8]) -> &[u8]
     ensures { result.now ≡ description_of r.now }
 {
-    octets::cut(r, 4, octets::number16(r, 2))
+    octets::cut(r, 4, octets::number::<2>(r, 2))
 }
 
 // The index of record i.

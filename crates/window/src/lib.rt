@@ -32,7 +32,7 @@ pub fn newest_of(newest: usize, sidx: usize) -> usize
 fn does_carry(r: &[u8], v: usize) -> bool
     ensures { result ≡ carries r.now v }
 {
-    octets::byte(r, 0) == v && 0 < octets::number16(r, 2)
+    octets::byte(r, 0) == v && 0 < octets::number::<2>(r, 2)
 }
 
 // v is in the window of `newest` and in that of `new`.
