@@ -8,6 +8,8 @@ use Rattle.paper.specs.Time.{Time}
 use Rattle.paper.specs.declared.Outcome.{Outcome}
 use Rattle.paper.specs.declared.Outcome.TheVariants.{End, Whole, Joined, Kept, Repeat, Described, Skipped, Refused}
 use Rattle.paper.specs.declared.Facts.{Facts}
+use Rattle.paper.specs.declared.Name.{Name}
+use Rattle.paper.specs.declared.Sender.{Sender}
 
 abbrev pub number_of : Refusal → ℕ
 -- the desk's number, n, or lent memory that is too short for n
@@ -72,3 +74,7 @@ values_of Repeat = []
 values_of Described = []
 values_of (Skipped t) = t ∷ []
 values_of (Refused r) = number_of r ∷ []
+
+-- whose sample a name is
+abbrev pub whose : Name → Sender
+whose n = record { desk = n.desk; time = Some n.time }

@@ -4,7 +4,7 @@
 pub mod limits;
 
 ghost use Rattle.std.specs.Prelude.{◌≡◌};
-ghost use Rattle.paper.specs.Words.{number_of, kind_of};
+ghost use Rattle.paper.specs.Words.{number_of, kind_of, whose};
 
 // Why a call is refused; `number_of` gives each its number in the paper.
 #[derive(Clone, Copy, Debug, PartialEq, Eq)]
@@ -44,6 +44,18 @@ pub struct Name {
 pub struct Sender {
     pub desk: usize,
     pub time: Time,
+}
+
+// Whose sample a name is: its desk's, at its time.
+impl From<Name> for Sender {
+    ghost from_gives = { λ n s. s ≡ whose n };
+
+    fn from(name: Name) -> Sender {
+        Sender {
+            desk: name.desk,
+            time: Some(name.time),
+        }
+    }
 }
 
 // What is told of a sample that is handed out: its time, U, SIDX, SDUR, and how long its string and all of it are.
