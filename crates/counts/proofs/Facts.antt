@@ -1,5 +1,6 @@
 -- What counting uses of lists and tests. Nothing of the program logic. Assumes nothing.
 use Rattle.std.proofs.Common.{ℕ, suc, ◌+◌, ◌≤◌, min, arith, ◌≡◌, refl, sym, ap, ◌∙◌, Bool, true, false, cond, List, [], ◌∷◌, length, take}
+use mir.Val.{bool_byte}
 use Rattle.std.proofs.Math.Seq.{length-take-le}
 use Rattle.laws.specs.Rows.{◌⇒◌⁏◌, ◌<?◌, ◌=?◌, ge, eq_of}
 use Rattle.laws.specs.Table.{bit, seek, count}
@@ -19,6 +20,10 @@ pub bit-small : (b : Bool) (r : ℕ) → r ≡ bit b → r ≤ 1
 bit-small true r e = omega arith
 bit-small false r e = omega arith
 
+pub one-bit : (b : Bool) → bool_byte b ≡ bit b
+one-bit true = refl
+one-bit false = refl
+
 -- ---- a search is spared where none counts
 -- where no element is q, and each that is p is q, none is p
 none_so : {A : Type 0} (p q : A → Bool) → ((x : A) → q x ≡ false → p x ≡ false) → (l : List A) → count q l ≡ 0 → seek p l ≡ length l
@@ -29,23 +34,10 @@ none_so p q less (x ∷ xs) e = go (q x) refl e (none_so p q less xs)
     go true f e ih = absurd (omega arith)
     go false f e ih = rw (less x f) (ap suc (ih (omega arith)))
 
-module _ (ys : List Place) (m : ℕ) (who : Sender) where
-  abbrev sought : Place → Bool
-  sought = is_at who.desk who.time
-
-  -- n places are looked at, c of them bear the time, k are searched
-  pub spared : (n c k : ℕ) → n ≡ min (length ys) m → c ≡ count (bears who) (take n ys) → k ≡ (c =? 0 ⇒ 0 ⁏ n) → (seek sought (take k ys) <? k) ≡ holds sought (take m ys)
-  unfolding ◌⇒◌⁏◌ ◌<?◌
-  spared n c k en ec ek = go (c =? 0) refl ek
-    where
-      same : take n ys ≡ take m ys
-      same = ap (λ (j : ℕ). take j ys) en ∙ take_min ys m
-
-      long : length (take n ys) ≡ n
-      long = length-take-le n ys (omega (arith, en))
-
-      go : (b : Bool) → (c =? 0) ≡ b → k ≡ (b ⇒ 0 ⁏ n) → (seek sought (take k ys) <? k) ≡ holds sought (take m ys)
-      go true f e =
-          let none : seek sought (take n ys) ≡ length (take n ys) = none_so sought (bears who) (λ y h. sym (fails y.used (y.desk =? who.desk) (is_time who.time y.time) h)) (take n ys) (sym ec ∙ eq_of c 0 f) in
-          rw (e, sym same) (sym (ge (seek sought (take n ys)) (length (take n ys)) (omega (arith, none))))
-      go false f e = rw (e, sym same, long)
+-- a desk's sample bears its time
+pub none-open : (who : Sender) (l : List Place) → count (bears who) l ≡ 0 → holds (is_at who.desk who.time) l ≡ false
+none-open who l e =
+    let p = is_at who.desk who.time in
+    let none : seek p l ≡ length l =
+    none_so p (bears who) (λ y h. sym (fails y.used (y.desk =? who.desk) (is_time who.time y.time) h)) l e in
+    ge (seek p l) (length l) (omega (arith, none))

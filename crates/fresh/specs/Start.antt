@@ -5,12 +5,13 @@ use Rattle.std.proofs.Common.{arith, ap, sym, ◌∙◌}
 use Rattle.std.proofs.Math.Path.{refl}
 use Rattle.std.proofs.Math.Bool.{true, false}
 use Rattle.std.proofs.lemmas.List.Edits.{sets}
-use Rattle.laws.specs.Rows.{◌⇒◌⁏◌, ◌or◌, ◌<?◌, ◌=?◌, each, eq, ge-of, or-none}
+use Rattle.laws.specs.Rows.{◌⇒◌⁏◌, ◌or◌, ◌<?◌, ◌=?◌, each, yes, no, eq, ge-of, or-none}
 use Rattle.laws.specs.Region.{sets-append}
 use Rattle.paper.specs.Limits.{desks_most, in_band, head_size, marks_each, places, rows_need, stores_need}
+use Rattle.paper.specs.declared.Refusal.{Refusal}
 use Rattle.paper.specs.declared.Refusal.TheVariants as R
 use Rattle.table.specs.Table.{cleared}
-use Rattle.memory.specs.Relay.{Tables, tables, improper, lacking, Prepared, prepared, head, own_marks, fresh_marks, fresh_tables, set_up}
+use Rattle.memory.specs.Relay.{Tables, tables, improper, lacks, lacking, Prepared, prepared, head, own_marks, fresh_marks, fresh_tables, set_up}
 use Rattle.fresh.specs.Fresh.{fitting, started_of, made_marks}
 
 -- ---- the head: zeros, and then the number of desks
@@ -73,3 +74,54 @@ pub fitting-most : (n table rows marks stores : ℕ) → fitting n table rows ma
 unfolding fitting improper
 fitting-most n table rows marks stores =
     each (λ (k : ℕ). k ≤ desks_most) _ _ _ (λ e. omega arith) (λ e. ge-of _ _ (or-none _ _ (or-none _ _ e).0).1)
+
+-- what set-up answers tells how many desks it makes: n, or none
+module _ (n table rows marks stores : ℕ) where
+  abbrev fits : ℕ
+  fits = fitting n table rows marks stores
+
+  abbrev one : Bool
+  one = improper n or lacks n table rows marks stores
+
+  pub fit-refused : one ≡ true → Err R.Desk ≡ started_of fits
+  unfolding fitting started_of
+  fit-refused e = yes (0 =? 0) Ready (eq 0 0 refl) refl ∙ ap started_of (yes one n e refl)
+
+  pub fit-ready : one ≡ false → Ready ≡ started_of fits
+  unfolding fitting started_of improper
+  fit-ready e =
+      let p = or-none _ _ (or-none _ _ e).0 in no (n =? 0) (Err R.Desk) p.0 refl ∙ ap started_of (no one 0 e refl)
+
+  pub fit_none : (r : Refusal) → Err r ≡ started_of fits → fits ≡ 0
+  unfolding fitting
+  fit_none r e = go one refl
+    where
+      go : (b : Bool) → one ≡ b → fits ≡ 0
+      go true f = sym (yes one n f refl)
+      go false f = let k = fit-ready f in cc
+
+  pub fit_all : Ready ≡ started_of fits → fits ≡ n
+  unfolding fitting
+  fit_all e = go one refl
+    where
+      go : (b : Bool) → one ≡ b → fits ≡ n
+      go true f = let k = fit-refused f in cc
+      go false f = sym (no one 0 f refl)
+
+-- what it leaves where it is refused, and where all that n desks need is there
+module _ (n : ℕ) (s : Tables) where
+  abbrev fits_in : ℕ
+  fits_in = fits n (length s.places) (length s.rows) (length s.marks) (length s.stores)
+
+  pub set-up-refused : (r : Refusal) → Err r ≡ started_of fits_in → prepared s (Err r) ≡ set_up n s
+  unfolding started_of
+  set-up-refused r e =
+      let none = fit_none n (length s.places) (length s.rows) (length s.marks) (length s.stores) r e in
+      let told : started_of 0 ≡ Err R.Desk = sym (yes (0 =? 0) Ready (eq 0 0 refl) refl) in
+      ap (prepared s) (e ∙ ap started_of none ∙ told) ∙ sym (made_none n s) ∙ ap (made_of n s) (sym none) ∙ set-up-is n s
+
+  pub set-up-made : Ready ≡ started_of fits_in
+      → prepared (made_of n s n).tables Ready ≡ set_up n s
+  set-up-made e =
+      let all = fit_all n (length s.places) (length s.rows) (length s.marks) (length s.stores) e in
+      ap (prepared (made_of n s n).tables) (e ∙ ap started_of all) ∙ ap (made_of n s) (sym all) ∙ set-up-is n s

@@ -1,4 +1,4 @@
-// Set-up: what n desks need is made fresh. Where it is refused, that is for 0 desks, nothing is written.
+// Set-up: what n desks need is made fresh. For 0 desks nothing is written.
 #![tactic(auto)]
 
 ghost use Rattle.std.specs.Prelude.{◌≡◌, ◌≤◌, replicate};
@@ -7,22 +7,20 @@ ghost use Rattle.paper.specs.Limits.{desks_most, head_size, places, rows_need, s
 ghost use Rattle.memory.specs.Relay.{head, own_marks};
 ghost use Rattle.fresh.specs.Fresh.{fitting, started_of, made_marks};
 
+use gate::Room;
 use paper::Refusal;
 use paper::limits::{
     DESKS_AT, FINISHED_MOST, HEAD_SIZE, IN_BAND, MARKS_EACH, PLACES_EACH, STORE_SIZE,
 };
 
-// n where all that it needs is there, and 0 where set-up is refused.
-pub fn fit(n: usize, table: usize, rows: usize, marks: usize, stores: usize) -> usize
-    ensures { result ≡ fitting n table rows marks stores }
+// Whether n is proper and all that n desks need is there.
+pub fn fit(n: usize, room: Room) -> Result<(), Refusal>
+    ensures { result ≡ started_of (fitting n room.places room.rows room.marks room.stores) }
 {
-    if gate::is_improper(n) {
-        return 0;
+    if gate::is_improper(n) || gate::is_lacking(n, room) {
+        return Err(Refusal::Desk);
     }
-    if gate::is_lacking(n, table, rows, marks, stores) {
-        return 0;
-    }
-    n
+    Ok(())
 }
 
 // How many places n desks have.
@@ -33,25 +31,13 @@ pub fn places_of(n: usize) -> usize
     PLACES_EACH * n
 }
 
-fn zero_words(row: &mut [u32], k: usize)
-    ensures { row.new ≡ sets row.old 0 (replicate k 0) }
+// Fills the first k elements, or as many as there are.
+fn fill_front<T: Copy>(s: &mut [T], k: usize, value: T)
+    ensures { s.new ≡ sets s.old 0 (replicate k value) }
 {
-    let n = octets::least(k, row.len());
-    let mut i = 0;
-    while i < n {
-        row[i] = 0;
-        i += 1;
-    }
-}
-
-fn zero_bytes(s: &mut [u8], k: usize)
-    ensures { s.new ≡ sets s.old 0 (replicate k 0) }
-{
-    let n = octets::least(k, s.len());
-    let mut i = 0;
-    while i < n {
-        s[i] = 0;
-        i += 1;
+    let n = s.len().min(k);
+    for x in &mut s[..n] {
+        *x = value;
     }
 }
 
@@ -59,7 +45,7 @@ fn put_head(marks: &mut [u32], n: usize)
     requires { n ≤ desks_most }
     ensures { marks.new ≡ sets marks.old 0 (head n) }
 {
-    zero_words(marks, HEAD_SIZE);
+    fill_front(marks, HEAD_SIZE, 0);
     octets::put_word(marks, DESKS_AT, n as u32);
 }
 
@@ -67,11 +53,9 @@ fn put_own(marks: &mut [u32], n: usize)
     requires { n ≤ desks_most }
     ensures { marks.new ≡ sets marks.old head_size (own_marks n) }
 {
-    let mut i = 0;
-    while i < n {
+    for i in 0..n {
         octets::put_word(marks, HEAD_SIZE + MARKS_EACH * i, 0);
         octets::put_word(marks, HEAD_SIZE + MARKS_EACH * i + 1, IN_BAND as u32);
-        i += 1;
     }
 }
 
@@ -79,11 +63,10 @@ fn fresh_marks(marks: &mut [u32], n: usize)
     requires { n ≤ desks_most }
     ensures { marks.new ≡ made_marks n marks.old }
 {
-    if n == 0 {
-        return;
+    if n > 0 {
+        put_head(marks, n);
+        put_own(marks, n);
     }
-    put_head(marks, n);
-    put_own(marks, n);
 }
 
 pub fn make_fresh(rows: &mut [u32], marks: &mut [u32], stores: &mut [u8], n: usize)
@@ -92,16 +75,7 @@ pub fn make_fresh(rows: &mut [u32], marks: &mut [u32], stores: &mut [u8], n: usi
         × (marks.new ≡ made_marks n marks.old)
         × (stores.new ≡ sets stores.old 0 (replicate (stores_need n) 0)) }
 {
-    zero_words(rows, FINISHED_MOST * n);
+    fill_front(rows, FINISHED_MOST * n, 0);
     fresh_marks(marks, n);
-    zero_bytes(stores, STORE_SIZE * n);
-}
-
-pub fn answer_of(n: usize) -> Result<(), Refusal>
-    ensures { result ≡ started_of n }
-{
-    if n == 0 {
-        return Err(Refusal::Desk);
-    }
-    Ok(())
+    fill_front(stores, STORE_SIZE * n, 0);
 }

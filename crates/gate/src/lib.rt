@@ -12,6 +12,15 @@ use paper::limits::{
     STORE_SIZE,
 };
 
+// How much is lent to a call: of each table, how many elements.
+#[derive(Clone, Copy)]
+pub struct Room {
+    pub places: usize,
+    pub rows: usize,
+    pub marks: usize,
+    pub stores: usize,
+}
+
 // How many desks there are, as set-up put it down.
 pub fn desks_of(marks: &[u32]) -> usize
     ensures { result ≡ desks_of marks.now }
@@ -22,67 +31,34 @@ pub fn desks_of(marks: &[u32]) -> usize
 pub fn is_improper(n: usize) -> bool
     ensures { result ≡ improper n }
 {
-    if n == 0 {
-        return true;
-    }
-    if DESKS_MOST < n {
-        return true;
-    }
-    false
+    !(1..=DESKS_MOST).contains(&n)
 }
 
 pub fn is_stranger(n: usize, desk: usize) -> bool
     ensures { result ≡ stranger n desk }
 {
-    if is_improper(n) {
-        return true;
-    }
-    if desk < n {
-        return false;
-    }
-    true
+    is_improper(n) || n <= desk
 }
 
-pub fn lacks_three(n: usize, table: usize, rows: usize, marks: usize) -> bool
+pub fn lacks_three(n: usize, places: usize, rows: usize, marks: usize) -> bool
     requires { n ≤ desks_most }
-    ensures { result ≡ lacks_three n table rows marks }
+    ensures { result ≡ lacks_three n places rows marks }
 {
-    if table < PLACES_EACH * n {
-        return true;
-    }
-    if rows < FINISHED_MOST * n {
-        return true;
-    }
-    marks < HEAD_SIZE + MARKS_EACH * n
+    places < PLACES_EACH * n || rows < FINISHED_MOST * n || marks < HEAD_SIZE + MARKS_EACH * n
 }
 
-pub fn is_lacking(n: usize, table: usize, rows: usize, marks: usize, stores: usize) -> bool
+pub fn is_lacking(n: usize, room: Room) -> bool
     requires { n ≤ desks_most }
-    ensures { result ≡ lacks n table rows marks stores }
+    ensures { result ≡ lacks n room.places room.rows room.marks room.stores }
 {
-    if lacks_three(n, table, rows, marks) {
-        return true;
-    }
-    stores < STORE_SIZE * n
+    lacks_three(n, room.places, room.rows, room.marks) || room.stores < STORE_SIZE * n
 }
 
 // 1 and 2.
-pub fn gate_of(
-    n: usize,
-    table: usize,
-    rows: &[u32],
-    marks: &[u32],
-    stores: usize,
-    desk: usize,
-    out: &[u8],
-) -> Result<(), Refusal>
-    ensures { result ≡ gate_of n table (length rows.now) (length marks.now) stores desk
-        (length out.now) }
+pub fn gate_of(n: usize, room: Room, desk: usize, out: &[u8]) -> Result<(), Refusal>
+    ensures { result ≡ gate_of n room.places room.rows room.marks room.stores desk (length out.now) }
 {
-    if is_stranger(n, desk) {
-        return Err(Refusal::Desk);
-    }
-    if is_lacking(n, table, rows.len(), marks.len(), stores) {
+    if is_stranger(n, desk) || is_lacking(n, room) {
         return Err(Refusal::Desk);
     }
     if out.len() < SAMPLE_MOST {

@@ -1,5 +1,5 @@
 -- What of the table is looked at, and which place is kept or freed. Assumes nothing.
-use Rattle.std.specs.Prelude.{ℕ, min, Some, Ok, Err}
+use Rattle.std.specs.Prelude.{ℕ, min, List, take, Option, Some, None, Ok, Err}
 use Rattle.laws.specs.Rows.{◌⇒◌⁏◌, ◌and◌, ◌<?◌}
 use Rattle.paper.specs.Limits.{desks_most, places}
 use Rattle.paper.specs.Words.{by_time}
@@ -9,7 +9,10 @@ use Rattle.paper.specs.Time.{Time}
 use Rattle.unit.specs.declared.Unit.{Unit}
 use Rattle.desk.specs.GivenUp.{GivenUp}
 use Rattle.desk.specs.Desk.{is_text}
+use Rattle.sample.specs.declared.Place.{Place}
 use Rattle.memory.specs.Relay.{sender}
+use Rattle.memory.specs.Table.{vacant, is_at}
+use Rattle.table.specs.Table.{holds, place_where}
 
 -- ---- what is looked at: of `len` places that are lent, those of n desks
 unfoldable pub reach_of : (n len : ℕ) → ℕ
@@ -31,6 +34,13 @@ asked_of at m = at <? m ⇒ 0 ⁏ m
 -- where in none
 unfoldable pub spot_of : (at low m len total : ℕ) → ℕ
 spot_of at low m len total = at <? m ⇒ at ⁏ low <? m and 1 <? total ⇒ low ⁏ len
+
+-- the same, and none where it is kept in none
+unfoldable pub spot_in : (desk : ℕ) → Time → (m total : ℕ) → List Place → Option ℕ
+spot_in desk t m total l =
+    holds (is_at desk t) (take m l) ⇒ place_where (is_at desk t) (take m l)
+    ⁏ 1 <? total ⇒ place_where vacant (take m l)
+    ⁏ None
 
 -- whose sample a name is: its desk's, at its time
 abbrev pub sender_of : Name → Sender

@@ -1,13 +1,14 @@
-// Which places a call looks at, and which one it keeps or frees.
+// Which places a call looks at, and where a part is kept.
 #![tactic(auto)]
 
 ghost use Rattle.std.specs.Prelude.{◌≡◌};
 ghost use Rattle.memory.specs.Relay.{desks_of};
-ghost use Rattle.looks.specs.Looks.{reach_of, reach_at, reach_for, asked_of, spot_of, sender_of, freed_at};
+ghost use Rattle.looks.specs.Looks.{reach_of, reach_at, reach_for, spot_in};
 
 use asks::Arrival;
+use paper::Sender;
 use paper::limits::{DESKS_MOST, PLACES_EACH};
-use paper::{Name, Refusal, Sender};
+use sample::Place;
 use unit::Reading;
 
 // How many of the places that are lent are the desks'; none where their number is improper.
@@ -16,17 +17,17 @@ fn all(marks: &[u32], len: usize) -> usize
 {
     let n = gate::desks_of(marks);
     if DESKS_MOST < n {
-        return 0;
+        0
+    } else {
+        (PLACES_EACH * n).min(len)
     }
-    octets::least(PLACES_EACH * n, len)
 }
 
 // The same at a known time, and else none.
 pub fn reach(marks: &[u32], who: Sender, len: usize) -> usize
     ensures { result ≡ reach_at (desks_of marks.now) who.time len }
 {
-    let t = who.time;
-    match t {
+    match who.time {
         Some(_) => all(marks, len),
         None => 0,
     }
@@ -37,49 +38,20 @@ pub fn reach_for(marks: &[u32], who: Sender, len: usize, r: Reading) -> usize
     ensures { result ≡ reach_for (desks_of marks.now) who.time len r.unit }
 {
     if asks::is_text(r) {
-        return reach(marks, who, len);
-    }
-    0
-}
-
-pub fn asked(at: usize, m: usize) -> usize
-    ensures { result ≡ asked_of at m }
-{
-    if at < m {
-        return 0;
-    }
-    m
-}
-
-pub fn spot(at: usize, low: usize, m: usize, len: usize, x: Arrival) -> usize
-    ensures { result ≡ spot_of at low m len x.part.total }
-{
-    let w = x.part;
-    if at < m {
-        return at;
-    }
-    if low < m {
-        if 1 < w.total {
-            return low;
-        }
-    }
-    len
-}
-
-pub fn sender_of(who: Name) -> Sender
-    ensures { result ≡ sender_of who }
-{
-    Sender {
-        desk: who.desk,
-        time: Some(who.time),
+        reach(marks, who, len)
+    } else {
+        0
     }
 }
 
-pub fn freed_at(g: Result<(), Refusal>, at: usize, len: usize) -> usize
-    ensures { result ≡ freed_at g at len }
+// Where a part is kept: in the place of its sample among the first m, else in the lowest free one, if the part does not end its sample at
+// once.
+pub fn spot(t: &[Place], m: usize, who: Sender, x: Arrival) -> Option<usize>
+    ensures { result ≡ spot_in who.desk who.time m x.part.total t.now }
 {
-    match g {
-        Ok(()) => at,
-        Err(_) => len,
+    match finds::find(t, m, who) {
+        Some(at) => Some(at),
+        None if 1 < x.part.total => finds::lowest(t, m),
+        None => None,
     }
 }

@@ -39,12 +39,12 @@ use Rattle.memory.specs.Relay.{was_open, is_open, recounted, stranger, lacking, 
 use Rattle.memory.specs.Relay.{received_at}
 use Rattle.memory.proofs.Back.{open_unknown, placed-open, still_open, put_same}
 use Rattle.memory.proofs.Counted.{recounted-same, is-closed}
-use Rattle.looks.specs.Looks.{reach_at, reach_for, asked_of, spot_of}
+use Rattle.looks.specs.Looks.{reach_at, reach_for, asked_of, spot_of, spot_in}
 use Rattle.steps.specs.Plan.{Plan, plan, plan_of, own_at, part_planned, pass_planned}
 use Rattle.gate.specs.Tests.{proper, all-long}
 use Rattle.steps.specs.Kept.{before_at, kept_places, joined_at}
 use Rattle.steps.specs.Found.{reach-all, reach-most, found, found-used, found-holds, before-found}
-use Rattle.steps.specs.Found.{goes, open-spot}
+use Rattle.steps.specs.Found.{goes, open-spot, spot-some, spot-none}
 use Rattle.steps.specs.Lone.{part_none}
 
 -- ---- receive
@@ -122,7 +122,7 @@ module _ (s : Tables) (who : Sender) where
     abbrev stored : Shares
     stored = stored_shares n who.desk s.marks
 
-    abbrev spot_at : ℕ
+    abbrev pub spot_at : ℕ
     spot_at =
         spot_of (seek (is_at who.desk who.time) (take m s.places))
         (seek vacant (take (asked_of (seek (is_at who.desk who.time) (take m s.places)) m) s.places)) m len x.part.total
@@ -140,6 +140,15 @@ module _ (s : Tables) (who : Sender) where
         go a t = below _ _ _ _
             (λ e. ap (λ (k : ℕ). seek vacant (take k s.places) <? m and 1 <? t ⇒ seek vacant (take k s.places) ⁏ len)
             (sym (no _ _ e refl)))
+
+    -- where the code keeps the part
+    pub spot-found : (i : ℕ) → Some i ≡ spot_in who.desk who.time m x.part.total s.places → (i ≡ spot_at) × (i < len)
+    spot-found i e =
+        let k = spot-some who.desk who.time m s.places (reach-most n who.time len) x.part.total i e in (k.0 ∙ sym spot_is, k.1)
+
+    pub spot-lost : None ≡ spot_in who.desk who.time m x.part.total s.places → len ≤ spot_at
+    spot-lost e =
+        rw spot_is (spot-none who.desk who.time m s.places (reach-most n who.time len) x.part.total e)
 
     -- a free place is taken only by a part that does not end its sample
     pub spot-opens : spot_at < len → (before_at spot_at s.places).used ≡ false → 1 < x.part.total

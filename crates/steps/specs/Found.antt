@@ -1,5 +1,5 @@
 -- What a call finds in the table of places, and where what it keeps goes: the definitions' place. Assumes nothing.
-use Rattle.std.specs.Prelude.{ℕ, ◌≤◌, ◌<◌, min, ◌≡◌, Bool, get_or, take, Some, None}
+use Rattle.std.specs.Prelude.{ℕ, ◌≤◌, ◌<◌, min, ◌≡◌, Bool, Option, get_or, take, Some, None}
 use Rattle.std.proofs.Common.{arith, ◌∙◌, true≢false, take-append-drop, get_or-set_same, get_or-take, length-take-le}
 use Rattle.std.proofs.Math.Path.{refl, sym, ap}
 use Rattle.std.proofs.Math.Bool.{true, false}
@@ -18,7 +18,7 @@ use Rattle.table.specs.Table.{holds}
 use Rattle.memory.specs.Table.{vacant, is_at}
 use Rattle.memory.specs.Relay.{stands_at, placed, was_open, is_open}
 use Rattle.memory.proofs.Counted.{is_open_lem, is_none}
-use Rattle.looks.specs.Looks.{reach_of, reach_at, spot_of}
+use Rattle.looks.specs.Looks.{reach_of, reach_at, spot_of, spot_in}
 use Rattle.steps.specs.Kept.{before_at, kept_places, open_none}
 
 -- ---- the table
@@ -180,3 +180,39 @@ module _ (desk : ℕ) (t : Time) (m : ℕ) (l : List Place) (fits : m ≤ length
     where
       none : m ≤ at → found ≡ closed
       none h = get_or-eq_default (take m l) closed (omega (arith, long))
+
+  -- where the code keeps a part is that place, and nowhere where that lies past the end
+  abbrev spotted : (k total : ℕ) → Option ℕ
+  spotted k total =
+      at <? k ⇒ (at <? k ⇒ Some at ⁏ None)
+      ⁏ 1 <? total ⇒ (low <? k ⇒ Some low ⁏ None)
+      ⁏ None
+
+  spotted_is : (total : ℕ) (r : Option ℕ) → r ≡ spot_in desk t m total l → r ≡ spotted m total
+  unfolding spot_in
+  spotted_is total r e = e ∙ ap (λ (k : ℕ). spotted k total) long
+
+  pub spot-some : (total i : ℕ) → Some i ≡ spot_in desk t m total l → (i ≡ spot total) × (i < length l)
+  unfolding spot_of ◌⇒◌⁏◌
+  spot-some total i e = go (at <? m) (low <? m) (1 <? total) refl refl (spotted_is total (Some i) e)
+    where
+      go : (a b c : Bool) → (at <? m) ≡ a → (low <? m) ≡ b
+          → Some i ≡ (a ⇒ (a ⇒ Some at ⁏ None) ⁏ c ⇒ (b ⇒ Some low ⁏ None) ⁏ None)
+          → (i ≡ (a ⇒ at ⁏ b and c ⇒ low ⁏ length l)) × (i < length l)
+      go true b c f g h = let k : i ≡ at = cc in (k, omega (arith, lt_of _ _ f, fits))
+      go false true true f g h = let k : i ≡ low = cc in (k, omega (arith, lt_of _ _ g, fits))
+      go false true false f g h = cc
+      go false false true f g h = cc
+      go false false false f g h = cc
+
+  pub spot-none : (total : ℕ) → None ≡ spot_in desk t m total l → length l ≤ spot total
+  unfolding spot_of ◌⇒◌⁏◌
+  spot-none total e = go (at <? m) (low <? m) (1 <? total) refl refl (spotted_is total None e)
+    where
+      go : (a b c : Bool) → (at <? m) ≡ a → (low <? m) ≡ b
+          → None ≡ (a ⇒ (a ⇒ Some at ⁏ None) ⁏ c ⇒ (b ⇒ Some low ⁏ None) ⁏ None)
+          → length l ≤ (a ⇒ at ⁏ b and c ⇒ low ⁏ length l)
+      go true b c f g h = cc
+      go false true true f g h = cc
+      go false true false f g h = omega arith
+      go false false c f g h = omega arith

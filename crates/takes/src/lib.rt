@@ -4,22 +4,19 @@
 
 ghost use Rattle.std.specs.Prelude.{◌≡◌, false, List, ℕ, ◌<◌, length};
 ghost use Rattle.sample.specs.Place.{closed};
-ghost use Rattle.asks.specs.Settled.{before, after, open_in};
+ghost use Rattle.asks.specs.Settled.{open_in};
 ghost use Rattle.steps.specs.Plan.{plan, part_planned, laid_plan, counted_plan};
 
-use asks::{Arrival, Settled};
-use paper::limits::{FINISHED_MOST, HEAD_SIZE, MARKS_EACH, PARTS_MOST, SAMPLE_MOST};
+use asks::Arrival;
+use gate::Room;
+use paper::limits::{FINISHED_MOST, HEAD_SIZE, MARKS_EACH};
 use paper::{Answer, Outcome, Sender};
-use sample::Head;
+use sample::Place;
 
 // Settles a call with a part over a place: its sample's, or the free one that it may open.
 pub fn step(
     table: usize,
-    q: Head,
-    kinds: &mut [usize; PARTS_MOST],
-    starts: &mut [usize; PARTS_MOST],
-    lens: &mut [usize; PARTS_MOST],
-    bytes: &mut [u8; SAMPLE_MOST],
+    p: &mut Place,
     rows: &mut [u32],
     marks: &mut [u32],
     store_len: usize,
@@ -27,37 +24,34 @@ pub fn step(
     x: Arrival,
     rest: &[u8],
     out: &mut [u8],
-) -> Settled
-    requires { q.used ≡ false → 1 < x.part.total }
+) -> Answer
+    requires { p.old.used ≡ false → 1 < x.part.total }
     ensures { (stores : List ℕ) → length stores ≡ store_len
-        → plan (after result.head kinds starts lens bytes) result.answer
-        rows.new marks.new stores out.new
-        ≡ counted_plan who.desk q.used (laid_plan (before q kinds starts lens bytes)
-        (part_planned table (open_in (before q kinds starts lens bytes))
-        rows.old marks.old stores out.old who x rest.now)) }
+        → plan p.new result rows.new marks.new stores out.new
+        ≡ counted_plan who.desk p.old.used (laid_plan p.old
+        (part_planned table (open_in p.old) rows.old marks.old stores out.old who x rest.now)) }
 {
     let n = gate::desks_of(marks);
     let t = who.time;
-    let g = gate::gate_of(n, table, rows, marks, store_len, who.desk, out);
+    let room = Room {
+        places: table,
+        rows: rows.len(),
+        marks: marks.len(),
+        stores: store_len,
+    };
+    let g = gate::gate_of(n, room, who.desk, out);
     match g {
-        Err(why) => Settled {
-            head: q,
-            answer: asks::says(0, t, Outcome::Refused(why)),
-        },
+        Err(why) => asks::says(0, t, Outcome::Refused(why)),
         Ok(()) => {
             let h = tally::shares(marks, n, who.desk);
             let row = FINISHED_MOST * who.desk;
             let mark = HEAD_SIZE + MARKS_EACH * who.desk;
-            let w = x.part;
-            let d = octets::cut(rest, w.start, w.len);
-            let s = settle::take_part(
+            let d = octets::cut(rest, x.part.start, x.part.len);
+            let was = p.used;
+            let answer = settle::take_part(
                 h,
                 who.desk,
-                q,
-                kinds,
-                starts,
-                lens,
-                bytes,
+                p,
                 &mut rows[row..row + FINISHED_MOST],
                 &mut marks[mark..mark + MARKS_EACH],
                 t,
@@ -65,9 +59,8 @@ pub fn step(
                 d,
                 out,
             );
-            let u = s.head;
-            tally::count(marks, who.desk, q.used, u.used);
-            s
+            tally::count(marks, who.desk, was, p.used);
+            answer
         }
     }
 }
@@ -91,15 +84,20 @@ pub fn step_lost(
 {
     let n = gate::desks_of(marks);
     let t = who.time;
-    let g = gate::gate_of(n, table, rows, marks, store_len, who.desk, out);
+    let room = Room {
+        places: table,
+        rows: rows.len(),
+        marks: marks.len(),
+        stores: store_len,
+    };
+    let g = gate::gate_of(n, room, who.desk, out);
     match g {
         Err(why) => asks::says(0, t, Outcome::Refused(why)),
         Ok(()) => {
             let h = tally::shares(marks, n, who.desk);
             let row = FINISHED_MOST * who.desk;
             let mark = HEAD_SIZE + MARKS_EACH * who.desk;
-            let w = x.part;
-            let d = octets::cut(rest, w.start, w.len);
+            let d = octets::cut(rest, x.part.start, x.part.len);
             settle::lose(
                 h,
                 who.desk,

@@ -8,7 +8,7 @@ ghost use Rattle.paper.specs.Limits.{desks_most};
 ghost use Rattle.memory.specs.Relay.{stored_shares, stepped, common_stepped, recounted};
 
 use desk::Shares;
-use paper::limits::{COMMON_AT, MARK_MOST, OPENS_AT, OWN_PLACES};
+use paper::limits::{COMMON_AT, OPENS_AT, OWN_PLACES};
 
 // The shares of one of n desks.
 pub fn shares(marks: &[u32], n: usize, desk: usize) -> Shares
@@ -27,22 +27,17 @@ fn step(is: bool, k: u32) -> u32
     ensures { result ≡ stepped (not is) is k }
 {
     if is {
-        if (k as usize) < MARK_MOST {
-            return k + 1;
-        }
-        return k;
+        k.saturating_add(1)
+    } else {
+        k.saturating_sub(1)
     }
-    octets::less(k as usize, 1) as u32
 }
 
 // How many the desk has open with this one, which the number does not count yet where it is open now, and counts where it was.
 fn with_it(is: bool, opens: u32) -> usize
     ensures { result ≡ opens + bit is }
 {
-    if is {
-        return opens as usize + 1;
-    }
-    opens as usize
+    opens as usize + usize::from(is)
 }
 
 // The same of the common use, where the desk had so many open.
@@ -50,9 +45,10 @@ fn common_step(is: bool, opens: u32, k: u32) -> u32
     ensures { result ≡ common_stepped (not is) is opens k }
 {
     if OWN_PLACES < with_it(is, opens) {
-        return step(is, k);
+        step(is, k)
+    } else {
+        k
     }
-    k
 }
 
 // Counts a place that was free and is open now, or was open and is free.
@@ -71,14 +67,7 @@ pub fn count(marks: &mut [u32], desk: usize, was: bool, is: bool)
     requires { desk < desks_most }
     ensures { marks.new ≡ recounted desk was is marks.old }
 {
-    if was {
-        if is {
-            return;
-        }
-        change(marks, desk, false);
-        return;
-    }
-    if is {
-        change(marks, desk, true);
+    if was != is {
+        change(marks, desk, is);
     }
 }

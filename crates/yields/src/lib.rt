@@ -2,10 +2,10 @@
 #![tactic(auto)]
 
 ghost use Rattle.std.specs.Prelude.{◌≡◌};
-ghost use Rattle.laws.specs.Rows.{◌<?◌};
 ghost use Rattle.sample.specs.declared.Place.{Place};
 ghost use Rattle.steps.specs.Plan.{plan, pass_planned, yield, yielding, place_after};
 
+use gate::Room;
 use paper::limits::{FINISHED_MOST, HEAD_SIZE, MARKS_EACH, STORE_SIZE};
 use paper::{Answer, Name, Outcome, Refusal, Sender};
 use unit::Reading;
@@ -29,7 +29,13 @@ pub fn pass_step(
 {
     let n = gate::desks_of(marks);
     let t = who.time;
-    let g = gate::gate_of(n, table, rows, marks, stores.len(), who.desk, out);
+    let room = Room {
+        places: table,
+        rows: rows.len(),
+        marks: marks.len(),
+        stores: stores.len(),
+    };
+    let g = gate::gate_of(n, room, who.desk, out);
     match g {
         Err(why) => asks::says(0, t, Outcome::Refused(why)),
         Ok(()) => {
@@ -53,31 +59,27 @@ pub fn pass_step(
 // Settles a give-up, and counts its place: behind 1 it is free, or there was none.
 pub fn yield_step(
     table: usize,
-    at: usize,
-    m: usize,
+    is_open: bool,
     rows: &mut [u32],
     marks: &mut [u32],
     who: Name,
 ) -> Result<(), Refusal>
-    ensures { (p : Place) → p.used ≡ (at <? m)
+    ensures { (p : Place) → p.used ≡ is_open
         → yield (place_after result p) result rows.new marks.new
         ≡ yielding table p rows.old marks.old who }
 {
     let n = gate::desks_of(marks);
-    if gate::is_stranger(n, who.desk) {
-        return Err(Refusal::Desk);
-    }
-    if gate::lacks_three(n, table, rows.len(), marks.len()) {
+    if gate::is_stranger(n, who.desk) || gate::lacks_three(n, table, rows.len(), marks.len()) {
         return Err(Refusal::Desk);
     }
     let row = FINISHED_MOST * who.desk;
     let mark = HEAD_SIZE + MARKS_EACH * who.desk;
     let g = ends::give_up(
-        at < m,
+        is_open,
         &mut rows[row..row + FINISHED_MOST],
         &mut marks[mark..mark + MARKS_EACH],
         who.time,
     );
-    tally::count(marks, who.desk, at < m, false);
+    tally::count(marks, who.desk, is_open, false);
     g
 }

@@ -1,14 +1,14 @@
--- `finds::find` meets its contract: where the loop goes on the place is passed over, and where it is left early it is the one.
--- Assumes nothing.
-use Rattle.std.proofs.Common.{sym, arith}
+-- `finds::find` meets its contract. Assumes nothing.
+use Rattle.std.proofs.Common.{◌∙◌, rules, tests, take}
+use Rattle.std.proofs.lemmas.Iterator.{YieldsList-from_slice, YieldsList-from_take}
+use Rattle.std.proofs.lemmas.Iterator.Search.{position_from_yields_List}
 use Rattle.memory.specs.Table.{is_at}
-use Rattle.finds.proofs.Found.{past-more, past-hit}
+use Rattle.finds.proofs.Found.{place-is}
 use Rattle.finds.proofs.find.Goals as goal
 
-pub loop-i-preserved : goal.loop-i-preserved
-loop-i-preserved c =
-    (omega arith, past-more (is_at c.args.who.desk c.args.who.time) _ c.args.t.now c.loop-i.i (omega arith) (sym c.if-is_of.ensures) c.loop-i.invariant.1)
-
-pub returns-then-is_of : goal.returns-then-is_of
-returns-then-is_of c =
-    past-hit (is_at c.args.who.desk c.args.who.time) _ c.args.t.now c.args.m c.loop-i.i (omega arith) (omega arith) (sym c.if-is_of.ensures) c.loop-i.invariant.1
+pub returns : goal.returns
+returns c =
+    let a = c.args in
+    position_from_yields_List (is_at a.who.desk a.who.time) _ _ c.position.result c.position.ensures.ran
+    (YieldsList-from_take a.m (YieldsList-from_slice a.t.now cc) c.take.ensures.count) (λ x b q k. search (rules, tests))
+    ∙ place-is (is_at a.who.desk a.who.time) (take a.m a.t.now)

@@ -1,14 +1,14 @@
--- `finds::lowest` meets its contract: where the loop goes on the place is passed over, and where it is left early it is the one.
--- Assumes nothing.
-use Rattle.std.proofs.Common.{ap, not, arith}
+-- `finds::lowest` meets its contract. Assumes nothing.
+use Rattle.std.proofs.Common.{◌∙◌, rules, tests, take, cond, ltb, length, Some, None, ◌≡◌}
+use Rattle.std.specs.List.{position_or_len}
+use Rattle.std.proofs.lemmas.Iterator.{YieldsList-from_slice, YieldsList-from_take}
+use Rattle.std.proofs.lemmas.Iterator.Search.{position_from_yields_List}
 use Rattle.memory.specs.Table.{vacant}
-use Rattle.finds.proofs.Found.{past-more, past-hit}
+use Rattle.finds.proofs.Found.{place-is}
 use Rattle.finds.proofs.lowest.Goals as goal
 
-pub loop-i-preserved : goal.loop-i-preserved
-loop-i-preserved c =
-    (omega arith, past-more vacant _ c.args.t.now c.loop-i.i (omega arith) (ap not c.if-not-p.false) c.loop-i.invariant.1)
-
-pub returns-then-not-p : goal.returns-then-not-p
-returns-then-not-p c =
-    past-hit vacant _ c.args.t.now c.args.m c.loop-i.i (omega arith) (omega arith) (ap not c.if-not-p.true) c.loop-i.invariant.1
+pub returns : goal.returns
+returns c =
+    position_from_yields_List vacant _ _ c.position.result c.position.ensures.ran
+    (YieldsList-from_take c.args.m (YieldsList-from_slice c.args.t.now cc) c.take.ensures.count) (λ x b q k. search (rules, tests))
+    ∙ place-is vacant (take c.args.m c.args.t.now)

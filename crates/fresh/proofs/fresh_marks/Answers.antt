@@ -1,9 +1,6 @@
 -- `fresh::fresh_marks` meets its contract: the head, and then the desks' own marks. Assumes nothing.
-use Prim.Native.Nat.{ℕ}
-use native.Mathlib.Omega.{arith}
-use mathlib.Core.Path.{refl, ap, ◌∙◌}
-use mathlib.Core.List.{List}
-use lib.Seq.{sets}
+use Rattle.std.proofs.Common.{ℕ, List, refl, ap, ◌∙◌, arith}
+use Rattle.std.proofs.lemmas.List.Edits.{sets}
 use Rattle.laws.specs.Rows.{yes, no, eq, ne}
 use Rattle.paper.specs.Limits.{head_size}
 use Rattle.memory.specs.Relay.{own_marks}
@@ -11,13 +8,13 @@ use Rattle.fresh.specs.Fresh.{made_marks}
 use Rattle.fresh.specs.Start.{marks-made}
 use Rattle.fresh.proofs.fresh_marks.Goals as goal
 
-pub returns-then-n-eq0 : goal.returns-then-n-eq0
+pub returns-else-n-gt0 : goal.returns-else-n-gt0
 unfolding made_marks
-returns-then-n-eq0 c = yes _ _ (eq _ _ (omega arith)) refl
+returns-else-n-gt0 c = yes _ _ (eq _ _ (omega arith)) refl
 
-pub returns : goal.returns
+pub returns-then-n-gt0 : goal.returns-then-n-gt0
 unfolding made_marks
-returns c =
+returns-then-n-gt0 c =
     let a = c.args in
     no _ _ (ne _ _ (λ h. omega arith))
     (c.put_own.ensures ∙ ap (λ (l : List ℕ). sets l head_size (own_marks a.n)) c.put_head.ensures

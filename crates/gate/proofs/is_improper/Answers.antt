@@ -1,18 +1,21 @@
 -- `gate::is_improper` meets its contract: none, or more than eight. Assumes nothing.
-use native.Mathlib.Omega.{arith}
-use mathlib.Core.Path.{refl, sym}
-use Rattle.laws.specs.Rows.{yes, no, lt, ge, eq, ne}
+use Rattle.std.proofs.Common.{ℕ, ◌≡◌, refl, ap, ◌∙◌, arith, rules, tests, Bool, true, false, not, cond, leb, ltb, eqb, ◌&&◌}
+use Rattle.std.proofs.lemmas.Bool.Decides.{nat_tests}
+use Rattle.laws.specs.Rows.{◌⇒◌⁏◌, ◌<?◌, ◌=?◌}
 use Rattle.memory.specs.Relay.{improper}
 use Rattle.gate.proofs.is_improper.Goals as goal
 
-pub returns-then-n-eq0 : goal.returns-then-n-eq0
-unfolding improper
-returns-then-n-eq0 c = yes _ _ (eq _ _ (omega arith)) refl
+outside : (n : ℕ) → not (leb 1 n && leb n 8) ≡ cond (eqb n 0) true (ltb 8 n)
+outside n = grind (arith, nat_tests)
 
-pub returns-then-n-gt-DESKS_MOST : goal.returns-then-n-gt-DESKS_MOST
-unfolding improper
-returns-then-n-gt-DESKS_MOST c = no _ _ (ne _ _ (λ h. omega arith)) (sym (lt _ _ (omega arith)))
+row : (a b : Bool) → cond a true b ≡ (a ⇒ true ⁏ b)
+unfolding ◌⇒◌⁏◌
+row true b = refl
+row false b = refl
 
 pub returns : goal.returns
-unfolding improper
-returns c = no _ _ (ne _ _ (λ h. omega arith)) (sym (ge _ _ (omega arith)))
+unfolding improper ◌<?◌ ◌=?◌
+returns c =
+    let n = c.args.n in
+    let told : c.contains.result ≡ (leb 1 n && leb n 8) = search (rules, tests) in
+    ap not told ∙ outside n ∙ row (eqb n 0) (ltb 8 n)

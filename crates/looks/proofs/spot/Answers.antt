@@ -1,22 +1,46 @@
 -- `looks::spot` meets its contract: the sample's place, else the lowest free one for a part that is not the whole. Assumes nothing.
-use native.Mathlib.Omega.{arith}
-use mathlib.Core.Path.{refl, sym}
-use Rattle.laws.specs.Rows.{yes, no, lt, ge, and_is}
-use Rattle.looks.specs.Looks.{spot_of}
+use Rattle.std.proofs.Common.{ℕ, ◌<◌, ◌≤◌, ◌≡◌, refl, sym, ap, ◌∙◌, Bool, List, take, Option, Some, None}
+use Rattle.std.specs.Option.{is_some}
+use Rattle.laws.specs.Rows.{◌⇒◌⁏◌, ◌<?◌, yes, no, lt, ge}
+use Rattle.paper.specs.declared.Sender.{Sender}
+use Rattle.sample.specs.declared.Place.{Place}
+use Rattle.memory.specs.Table.{vacant, is_at}
+use Rattle.table.specs.Table.{holds, place_where}
+use Rattle.table.proofs.Facts.{somewhere}
+use Rattle.looks.specs.Looks.{spot_in}
 use Rattle.looks.proofs.spot.Goals as goal
 
-pub returns-then-at-m : goal.returns-then-at-m
-unfolding spot_of
-returns-then-at-m c = yes _ _ (lt _ _ (omega arith)) refl
+module _ (who : Sender) (m total : ℕ) (l : List Place) where
+  abbrev its : Place → Bool
+  its = is_at who.desk who.time
 
-pub returns-then-w-gt1 : goal.returns-then-w-gt1
-unfolding spot_of
-returns-then-w-gt1 c = no _ _ (ge _ _ (omega arith)) (yes _ _ (and_is _ _ (lt _ _ (omega arith)) (lt _ _ (omega arith))) refl)
+  abbrev else : Option ℕ
+  else = 1 <? total ⇒ place_where vacant (take m l) ⁏ None
 
-pub returns-else-w-gt1 : goal.returns-else-w-gt1
-unfolding spot_of
-returns-else-w-gt1 c = no _ _ (ge _ _ (omega arith)) (no _ _ (sym (yes _ _ (lt _ _ (omega arith)) (sym (ge _ _ (omega arith))))) refl)
+  told : (r : Option ℕ) → r ≡ place_where its (take m l) → holds its (take m l) ≡ is_some r
+  told r e = sym (ap is_some e ∙ somewhere its (take m l))
 
-pub returns-else-low-m : goal.returns-else-low-m
-unfolding spot_of
-returns-else-low-m c = no _ _ (ge _ _ (omega arith)) (no _ _ (sym (no _ _ (ge _ _ (omega arith)) refl)) refl)
+  found : (i : ℕ) → Some i ≡ place_where its (take m l) → Some i ≡ spot_in who.desk who.time m total l
+  unfolding spot_in
+  found i e = yes (holds its (take m l)) else (told (Some i) e) e
+
+  lowest : None ≡ place_where its (take m l) → 1 < total → (r : Option ℕ) → r ≡ place_where vacant (take m l) → r ≡ spot_in who.desk who.time m total l
+  unfolding spot_in
+  lowest e h r k =
+      no (holds its (take m l)) (place_where its (take m l)) (told None e) (yes (1 <? total) None (lt 1 total h) k)
+
+  nowhere : None ≡ place_where its (take m l) → total ≤ 1 → None ≡ spot_in who.desk who.time m total l
+  unfolding spot_in
+  nowhere e h =
+      no (holds its (take m l)) (place_where its (take m l)) (told None e)
+      (no (1 <? total) (place_where vacant (take m l)) (ge 1 total h) refl)
+
+pub returns-in-Some : goal.returns-in-Some
+returns-in-Some c = found c.args.who c.args.m c.args.x.part.total c.args.t.now _ c.in-Some.ensures
+
+pub returns-in-None : goal.returns-in-None
+returns-in-None c =
+    lowest c.args.who c.args.m c.args.x.part.total c.args.t.now c.in-None.ensures c.if-x-gt1.true _ c.lowest.ensures
+
+pub returns-in-None-2 : goal.returns-in-None-2
+returns-in-None-2 c = nowhere c.args.who c.args.m c.args.x.part.total c.args.t.now c.in-None.ensures c.if-x-gt1.false

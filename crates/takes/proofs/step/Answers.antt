@@ -3,7 +3,6 @@
 use Prim.Native.Nat.{ℕ}
 use native.Mathlib.Omega.{arith}
 use mathlib.Core.Path.{ap, ◌∙◌}
-use Rattle.sample.specs.Head.{whole}
 use Rattle.memory.specs.Relay.{store_of, stored_shares}
 use Rattle.gate.specs.Tests.{gate-at, desk-few}
 use Rattle.gate.specs.Tests.{row-start, mark-each, mark-start, row-end, row-byte, row_within, mark-within}
@@ -38,23 +37,20 @@ pub returns-in-Err : goal.returns-in-Err
 returns-in-Err c = λ stores len.
     let a = c.args in
     let f = gate-at _ _ _ _ _ _ _ _ _ _ c.gate_of-g.ensures c.desks_of-n.ensures len in
-    let before = whole a.q a.kinds.now a.starts.now a.lens.now a.bytes.now in
-    step-shut a.table before a.rows.now a.marks.now stores a.out.now a.who a.x a.rest.now _ f _
+    step-shut a.table a.p.now a.rows.now a.marks.now stores a.out.now a.who a.x a.rest.now _ f _
     c.in-Err.is _ c.says.ensures
 
 pub returns-in-Ok : goal.returns-in-Ok
 returns-in-Ok c = λ stores len.
     let a = c.args in
     let f = gate-at _ _ _ _ _ _ _ _ _ _ c.gate_of-g.ensures c.desks_of-n.ensures len in
-    let before = whole a.q a.kinds.now a.starts.now a.lens.now a.bytes.now in
     let h = c.shares-h.ensures ∙ ap (λ (n : ℕ). stored_shares n a.who.desk a.marks.now) c.desks_of-n.ensures in
-    step_through a.table before a.rows.now a.marks.now stores a.out.now a.who a.x a.rest.now _ f
-    c.in-Ok.is _ h _ _ _ _ _ _ c.cut-d.ensures (c.take_part-s.ensures (store_of a.who.desk stores)) _
+    step_through a.table a.p.now a.rows.now a.marks.now stores a.out.now a.who a.x a.rest.now _ f
+    c.in-Ok.is _ h _ _ _ _ _ _ c.cut-d.ensures (c.take_part-answer.ensures (store_of a.who.desk stores)) _
     c.count.ensures
 
-pub take_part-s-requires : goal.take_part-s-requires
-take_part-s-requires c =
-    c.requires
+pub take_part-answer-requires : goal.take_part-answer-requires
+take_part-answer-requires c = c.requires
 
 pub count-requires : goal.count-requires
 count-requires c =

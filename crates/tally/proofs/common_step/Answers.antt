@@ -1,7 +1,5 @@
 -- `tally::common_step` meets its contract. Assumes nothing.
-use Prim.Native.Nat.{ℕ, ◌+◌}
-use mathlib.Core.Path.{◌≡◌, refl, sym, ap, ◌∙◌}
-use mathlib.Core.Bool.{Bool, true, false, not}
+use Rattle.std.proofs.Common.{ℕ, ◌+◌, ◌≡◌, refl, sym, ap, ◌∙◌, Bool, true, false, not}
 use Rattle.laws.specs.Rows.{◌<?◌, yes, no, lt, ge}
 use Rattle.laws.specs.Table.{bit}
 use Rattle.paper.specs.Limits.{own_places}
@@ -20,9 +18,9 @@ returns-then-with_it-gt-OWN_PLACES c =
     let w = with-this a.is a.opens _ c.with_it.ensures in
     yes _ _ (ap (λ (k : ℕ). own_places <? k) w ∙ lt _ _ c.if-with_it-gt-OWN_PLACES.true) c.step.ensures
 
-pub returns : goal.returns
+pub returns-else-with_it-gt-OWN_PLACES : goal.returns-else-with_it-gt-OWN_PLACES
 unfolding common_stepped
-returns c =
+returns-else-with_it-gt-OWN_PLACES c =
     let a = c.args in
     let w = with-this a.is a.opens _ c.with_it.ensures in
     no _ _ (ap (λ (k : ℕ). own_places <? k) w ∙ ge _ _ c.if-with_it-gt-OWN_PLACES.false) refl

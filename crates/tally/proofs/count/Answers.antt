@@ -1,33 +1,28 @@
 -- `tally::count` meets its contract: a place that stays open, or free, leaves the numbers, and else they are changed. Assumes nothing.
-use Prim.Native.Nat.{ℕ}
-use mathlib.Core.Path.{◌≡◌, sym, ap₂, ◌∙◌}
-use mathlib.Core.Bool.{Bool, true, false}
-use mathlib.Core.List.{List}
+use Rattle.std.proofs.Common.{◌≡◌, refl, sym, ap, ◌∙◌, Bool, true, false, not, true≢false}
+use mathlib.Core.Bool.{beq}
 use Rattle.memory.specs.Relay.{recounted}
 use Rattle.memory.proofs.Counted.{recounted-same}
 use Rattle.tally.proofs.count.Goals as goal
 
--- what is said of a place that was and is so is said of this one
-so : (desk : ℕ) (marks l : List ℕ) (was is v w : Bool) → was ≡ v → is ≡ w → l ≡ recounted desk v w marks
-    → l ≡ recounted desk was is marks
-so desk marks l was is v w e f h = h ∙ sym (ap₂ (λ (v w : Bool). recounted desk v w marks) e f)
+same : (was is : Bool) → not (beq was is) ≡ false → was ≡ is
+same true true e = refl
+same true false e = absurd (true≢false e)
+same false true e = absurd (true≢false e)
+same false false e = refl
 
-pub returns-then-is : goal.returns-then-is
-returns-then-is c =
-    let a = c.args in
-    so a.desk a.marks.now _ _ _ _ _ c.if-was.true c.if-is.true (sym (recounted-same a.desk true a.marks.now))
+changed : (was is : Bool) → not (beq was is) ≡ true → was ≡ not is
+changed true true e = absurd (true≢false (sym e))
+changed true false e = refl
+changed false true e = refl
+changed false false e = absurd (true≢false (sym e))
 
-pub returns-then-was : goal.returns-then-was
-returns-then-was c =
+pub returns-then-was-is : goal.returns-then-was-is
+returns-then-was-is c =
     let a = c.args in
-    so a.desk a.marks.now _ _ _ _ _ c.if-was.true c.if-is.false c.change.ensures
+    c.change.ensures ∙ sym (ap (λ (b : Bool). recounted a.desk b a.is a.marks.now) (changed a.was a.is c.if-was-is.true))
 
-pub returns-then-is-2 : goal.returns-then-is-2
-returns-then-is-2 c =
+pub returns-else-was-is : goal.returns-else-was-is
+returns-else-was-is c =
     let a = c.args in
-    so a.desk a.marks.now _ _ _ _ _ c.if-was.false c.if-is-2.true c.change-then-is-2.ensures
-
-pub returns-else-is-2 : goal.returns-else-is-2
-returns-else-is-2 c =
-    let a = c.args in
-    so a.desk a.marks.now _ _ _ _ _ c.if-was.false c.if-is-2.false (sym (recounted-same a.desk false a.marks.now))
+    sym (ap (λ (b : Bool). recounted a.desk b a.is a.marks.now) (same a.was a.is c.if-was-is.false) ∙ recounted-same a.desk a.is a.marks.now)

@@ -4,11 +4,11 @@ use Prim.Native.Nat.{ℕ}
 use mathlib.Core.Path.{sym, ap, ◌∙◌}
 use mathlib.Core.List.{[]}
 use lib.ListN.{length}
-use Rattle.laws.specs.Rows.{◌<?◌}
 use Rattle.memory.specs.Relay.{stranger, lacks_three}
 use Rattle.gate.specs.Tests.{proper, desk-few}
 use Rattle.gate.specs.Tests.{row-start, mark-each, mark-start, row-end, row-byte, row_within, mark-within}
 use Rattle.steps.specs.Steps.{room-three, yield-stranger, yield-lacking, yield-through}
+use Rattle.yields.proofs.yield_step.Goals.{then-is_stranger-via-then-is_stranger, then-is_stranger-via-else-is_stranger+then-lacks_three}
 use Rattle.yields.proofs.yield_step.Goals as goal
 
 pub lacks_three-requires : goal.lacks_three-requires
@@ -41,20 +41,16 @@ count-requires c = desk-few (room-three c.args.marks.now _ _ _ _ _ _ c.is_strang
 pub returns-then-is_stranger : goal.returns-then-is_stranger
 returns-then-is_stranger c = λ p o.
     let a = c.args in
-    let f = c.is_stranger.ensures ∙ ap (λ (n : ℕ). stranger n a.who.desk) c.desks_of-n.ensures in
-    yield-stranger a.table p a.rows.now a.marks.now a.who _ f c.if-is_stranger.true
-
-pub returns-then-lacks_three : goal.returns-then-lacks_three
-returns-then-lacks_three c = λ p o.
-    let a = c.args in
     let e = c.desks_of-n.ensures in
     let f = c.is_stranger.ensures ∙ ap (λ (n : ℕ). stranger n a.who.desk) e in
-    let k = c.lacks_three.ensures
-    ∙ ap (λ (n : ℕ). lacks_three n a.table (length a.rows.now) (length a.marks.now)) e in
-    yield-lacking a.table p a.rows.now a.marks.now a.who _ f c.if-is_stranger.false _ k c.if-lacks_three.true
+    elim c.then-is_stranger.branch [
+      | then-is_stranger-via-then-is_stranger w ↦ yield-stranger a.table p a.rows.now a.marks.now a.who _ f w.if-is_stranger.true
+      | then-is_stranger-via-else-is_stranger+then-lacks_three w ↦
+          yield-lacking a.table p a.rows.now a.marks.now a.who _ f w.if-is_stranger.false _
+          (w.lacks_three.ensures ∙ ap (λ (n : ℕ). lacks_three n a.table (length a.rows.now) (length a.marks.now)) e) w.if-lacks_three.true
+    ]
 
 pub returns : goal.returns
-unfolding ◌<?◌
 returns c = λ p o.
     let a = c.args in
     let e = c.desks_of-n.ensures in
