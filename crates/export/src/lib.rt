@@ -1,5 +1,5 @@
 // The relay for C and Rust: numbers and slices only. An answer goes as numbers into a lent row. `export_c` has each of these calls by its
-// name in C.
+// name in C, so each table, and whether a time is known, is a parameter of its own, and 0 stands for none.
 #![tactic(auto)]
 
 ghost use Rattle.std.specs.Prelude.{◌≡◌, length, drop};

@@ -64,6 +64,7 @@ pub fn name_of(desk: usize, time: u32) -> Name
     Name { desk, time }
 }
 
+// The C interface hands the time over as two numbers, since C has no Option.
 fn time_of(known: usize, time: u32) -> Time
     ensures { result ≡ time_of known time }
 {

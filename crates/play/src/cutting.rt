@@ -17,10 +17,8 @@ const MODIFIERS: [u8; 30] =
     *b"\x01\x02\x03\x04\x05\x06\x07\x08\x09\x0a\x0b\x0c\x0d\x0e\x0f\x10\x11\x12\x13\x14\x15\x16\x17\x18\x19\x1a\x1b\x1c\x1d\x1e";
 
 fn fill(s: &mut [u8], thirty: &[u8; 30]) {
-    let mut at = 0;
-    while at < s.len() {
-        octets::put(s, at, thirty);
-        at += 30;
+    for piece in s.chunks_mut(thirty.len()) {
+        octets::put(piece, 0, thirty);
     }
 }
 
@@ -75,7 +73,7 @@ fn fields(rt: &impl Print, sidx: usize, sdur: usize, out: &mut [u8]) -> io::Resu
 }
 
 // `enough SIDX SDUR`: with an output of the size limit.
-fn enough(rt: &impl Print, line: &[u8]) -> io::Result<()> {
+pub(crate) fn enough(rt: &impl Print, line: &[u8]) -> io::Result<()> {
     let mut out = [0xaau8; 17];
     fields(
         rt,
@@ -86,7 +84,7 @@ fn enough(rt: &impl Print, line: &[u8]) -> io::Result<()> {
 }
 
 // `short SIDX SDUR`: with one byte less.
-fn short(rt: &impl Print, line: &[u8]) -> io::Result<()> {
+pub(crate) fn short(rt: &impl Print, line: &[u8]) -> io::Result<()> {
     let mut out = [0xaau8; 16];
     fields(
         rt,
@@ -97,7 +95,7 @@ fn short(rt: &impl Print, line: &[u8]) -> io::Result<()> {
 }
 
 // `description SIDX N M K`.
-fn description(rt: &impl Print, line: &[u8]) -> io::Result<()> {
+pub(crate) fn description(rt: &impl Print, line: &[u8]) -> io::Result<()> {
     let mut d = [0u8; 300];
     fill(&mut d, &MODIFIERS);
     let mut out = [0xaau8; 1400];
@@ -110,33 +108,19 @@ fn description(rt: &impl Print, line: &[u8]) -> io::Result<()> {
 }
 
 // `sample U STRING N MORE M K`, with the bytes that the string repeats by name.
-fn sample(rt: &impl Print, line: &[u8]) -> io::Result<()> {
-    let name = script::word(line, 2);
-    let mut thirty = LETTERS;
-    if octets::same(name, b"mixed") {
-        thirty = MIXED;
-    }
-    if octets::same(name, b"wide") {
-        thirty = WIDE;
-    }
+pub(crate) fn sample(rt: &impl Print, line: &[u8]) -> io::Result<()> {
+    let thirty = match script::word(line, 2) {
+        b"mixed" => &MIXED,
+        b"wide" => &WIDE,
+        _ => &LETTERS,
+    };
     case(
         rt,
         script::number(line, 1),
-        &thirty,
+        thirty,
         script::number(line, 3),
         script::number(line, 4),
         script::number(line, 5),
         script::number(line, 6),
     )
-}
-
-// A line that is a call of the writer.
-pub(crate) fn play(rt: &impl Print, call: usize, line: &[u8]) -> io::Result<()> {
-    match call {
-        script::SAMPLE => sample(rt, line),
-        script::ENOUGH => enough(rt, line),
-        script::SHORT => short(rt, line),
-        script::DESCRIPTION => description(rt, line),
-        _ => Ok(()),
-    }
 }

@@ -24,8 +24,7 @@ fn sample(rt: &impl Print, f: Facts, out: &[u8]) -> io::Result<()> {
 fn hand_out(rt: &impl Print, h: Hall, outcome: Outcome) -> io::Result<Hall> {
     let out = h.out;
     match outcome {
-        Outcome::Whole(f) => sample(rt, f, &out)?,
-        Outcome::Joined(f) => sample(rt, f, &out)?,
+        Outcome::Whole(f) | Outcome::Joined(f) => sample(rt, f, &out)?,
         _ => {}
     }
     Ok(h)
@@ -39,25 +38,28 @@ fn print_time(rt: &impl Print, t: Time) -> io::Result<()> {
     }
 }
 
+// `set-up N`: a fresh relay.
+pub(crate) fn set_up(line: &[u8]) -> Hall {
+    hall::set_up(script::number(line, 1))
+}
+
 // The next running time, what the listing says of the payload's first unit, and what is handed out.
-fn receive(rt: &impl Print, h: Hall, desk: usize, time: Time, rest: &[u8]) -> io::Result<Hall> {
+fn take(rt: &impl Print, h: Hall, desk: usize, time: Time, rest: &[u8]) -> io::Result<Hall> {
     let r = hall::receive(h, Sender { desk, time }, rest);
     let answer = r.answer;
     let mut line = [0u8; 64];
     let end = lines::put_line(&mut line, 0, 0, time, answer);
-    let next = answer.next;
-    print_time(rt, next)?;
+    print_time(rt, answer.next)?;
     print::blank(rt)?;
-    print::text(rt, octets::cut(&line, 0, octets::less(end, 1)))?;
-    let outcome = answer.outcome;
-    hand_out(rt, r.hall, outcome)
+    print::text(rt, octets::cut(&line, 0, end.saturating_sub(1)))?;
+    hand_out(rt, r.hall, answer.outcome)
 }
 
 // `receive DESK TIME BYTES`; TIME is `?` where it is unknown.
-fn play_receive(rt: &impl Print, h: Hall, line: &[u8]) -> io::Result<Hall> {
+pub(crate) fn receive(rt: &impl Print, h: Hall, line: &[u8]) -> io::Result<Hall> {
     let mut rest = [0u8; PAYLOAD_MOST];
     let n = script::bytes(line, 3, &mut rest);
-    receive(
+    take(
         rt,
         h,
         script::number(line, 1),
@@ -67,7 +69,7 @@ fn play_receive(rt: &impl Print, h: Hall, line: &[u8]) -> io::Result<Hall> {
 }
 
 // Payload k of a caption, cut for the size limit m, is received.
-fn send(rt: &impl Print, h: Hall, line: &[u8], text: &[u8]) -> io::Result<Hall> {
+fn cut_and_take(rt: &impl Print, h: Hall, line: &[u8], text: &[u8]) -> io::Result<Hall> {
     let mut out = [0u8; PAYLOAD_MOST];
     let m = script::number(line, 3);
     let k = script::number(line, 4);
@@ -79,7 +81,7 @@ fn send(rt: &impl Print, h: Hall, line: &[u8], text: &[u8]) -> io::Result<Hall> 
         modifiers: &[],
     };
     match writes::write_sample(&c, m, k, &mut out) {
-        Ok(Payload { len, .. }) => receive(
+        Ok(Payload { len, .. }) => take(
             rt,
             h,
             script::number(line, 1),
@@ -91,19 +93,18 @@ fn send(rt: &impl Print, h: Hall, line: &[u8], text: &[u8]) -> io::Result<Hall> 
 }
 
 // `send DESK TIME M K BYTES`.
-fn play_send(rt: &impl Print, h: Hall, line: &[u8]) -> io::Result<Hall> {
+pub(crate) fn send(rt: &impl Print, h: Hall, line: &[u8]) -> io::Result<Hall> {
     let mut text = [0u8; PAYLOAD_MOST];
     let n = script::bytes(line, 5, &mut text);
-    send(rt, h, line, octets::cut(&text, 0, n))
+    cut_and_take(rt, h, line, octets::cut(&text, 0, n))
 }
 
 // `give-up DESK TIME`: 0, or the refusal.
-fn give_up(rt: &impl Print, h: Hall, line: &[u8]) -> io::Result<Hall> {
+pub(crate) fn give_up(rt: &impl Print, h: Hall, line: &[u8]) -> io::Result<Hall> {
     let desk = script::number(line, 1);
     let time = script::time(line, 2);
     let r = hall::give_up(h, Name { desk, time });
-    let answer = r.answer;
-    match answer {
+    match r.answer {
         Ok(()) => print::number(rt, 0)?,
         Err(why) => print::refused(rt, why)?,
     }
@@ -111,7 +112,7 @@ fn give_up(rt: &impl Print, h: Hall, line: &[u8]) -> io::Result<Hall> {
 }
 
 // `look DESK INDEX BOOK`: how long the description is that an index shows, and its front.
-fn look(rt: &impl Print, h: Hall, line: &[u8]) -> io::Result<Hall> {
+pub(crate) fn look(rt: &impl Print, h: Hall, line: &[u8]) -> io::Result<Hall> {
     let marks = h.marks;
     let stores = h.stores;
     let mut book = [0u8; BOOK_MOST];
@@ -125,7 +126,7 @@ fn look(rt: &impl Print, h: Hall, line: &[u8]) -> io::Result<Hall> {
 }
 
 // `book BYTES`: how many records a good style book has; or the refusal, and the first bad one's number.
-fn check(rt: &impl Print, line: &[u8]) -> io::Result<()> {
+pub(crate) fn book(rt: &impl Print, line: &[u8]) -> io::Result<()> {
     let mut book = [0u8; BOOK_MOST];
     let n = script::bytes(line, 1, &mut book);
     match book::check(octets::cut(&book, 0, n)) {
@@ -134,21 +135,5 @@ fn check(rt: &impl Print, line: &[u8]) -> io::Result<()> {
             print::refused(rt, bad.why)?;
             print::number(rt, bad.at)
         }
-    }
-}
-
-// A line that is a call of the relay; the others leave it. `set-up N` makes a fresh one.
-pub(crate) fn play(rt: &impl Print, h: Hall, call: usize, line: &[u8]) -> io::Result<Hall> {
-    match call {
-        script::SET_UP => Ok(hall::set_up(script::number(line, 1))),
-        script::RECEIVE => play_receive(rt, h, line),
-        script::SEND => play_send(rt, h, line),
-        script::GIVE_UP => give_up(rt, h, line),
-        script::LOOK => look(rt, h, line),
-        script::BOOK => {
-            check(rt, line)?;
-            Ok(h)
-        }
-        _ => Ok(h),
     }
 }

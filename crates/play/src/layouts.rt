@@ -36,13 +36,12 @@ fn tell(rt: &impl Print, x: Unit) -> io::Result<()> {
 }
 
 // `rest BYTES`: the bytes used, and the unit.
-fn rest(rt: &impl Print, line: &[u8]) -> io::Result<()> {
+pub(crate) fn rest(rt: &impl Print, line: &[u8]) -> io::Result<()> {
     let mut s = [0u8; REST_MOST];
     let n = script::bytes(line, 1, &mut s);
     let r = reads::read(octets::cut(&s, 0, n));
     print::number(rt, r.used)?;
-    let x = r.unit;
-    tell(rt, x)
+    tell(rt, r.unit)
 }
 
 // A header's length, and the output after it was put over twelve bytes of aa.
@@ -53,7 +52,7 @@ fn head(rt: &impl Print, x: Unit) -> io::Result<()> {
 }
 
 // A header of the numbers in their order: `head-whole U SIDX SDUR TLEN LEN`.
-fn head_whole(rt: &impl Print, line: &[u8]) -> io::Result<()> {
+pub(crate) fn head_whole(rt: &impl Print, line: &[u8]) -> io::Result<()> {
     head(
         rt,
         Unit::Whole(Whole {
@@ -68,7 +67,7 @@ fn head_whole(rt: &impl Print, line: &[u8]) -> io::Result<()> {
 }
 
 // `head-part TYPE TOTAL THIS SDUR U SIDX SLEN LEN`.
-fn head_part(rt: &impl Print, line: &[u8]) -> io::Result<()> {
+pub(crate) fn head_part(rt: &impl Print, line: &[u8]) -> io::Result<()> {
     head(
         rt,
         Unit::Part(Part {
@@ -86,7 +85,7 @@ fn head_part(rt: &impl Print, line: &[u8]) -> io::Result<()> {
 }
 
 // `head-description SIDX LEN`.
-fn head_description(rt: &impl Print, line: &[u8]) -> io::Result<()> {
+pub(crate) fn head_description(rt: &impl Print, line: &[u8]) -> io::Result<()> {
     head(
         rt,
         Unit::Description(Description {
@@ -97,14 +96,7 @@ fn head_description(rt: &impl Print, line: &[u8]) -> io::Result<()> {
     )
 }
 
-// A line that is a call of the layouts; `head-skipped TYPE` has no header.
-pub(crate) fn play(rt: &impl Print, call: usize, line: &[u8]) -> io::Result<()> {
-    match call {
-        script::REST => rest(rt, line),
-        script::HEAD_WHOLE => head_whole(rt, line),
-        script::HEAD_PART => head_part(rt, line),
-        script::HEAD_DESCRIPTION => head_description(rt, line),
-        script::HEAD_SKIPPED => head(rt, Unit::Skipped(script::number(line, 1))),
-        _ => Ok(()),
-    }
+// `head-skipped TYPE`, which has no header.
+pub(crate) fn head_skipped(rt: &impl Print, line: &[u8]) -> io::Result<()> {
+    head(rt, Unit::Skipped(script::number(line, 1)))
 }

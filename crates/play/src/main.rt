@@ -1,8 +1,6 @@
 // Plays the script on standard input: a line is a call of the relay or of a leaf, and what it answers is printed behind it.
 #![tactic(auto)]
 
-ghost use Rattle.std.specs.Prelude.{◌≤◌, length, IfOk};
-
 mod characters;
 mod cutting;
 mod desks;
@@ -12,30 +10,52 @@ mod script;
 mod times;
 mod walk;
 
+use hall::Hall;
+use script::Call;
 use std::io;
-use std::io::{Print, Read};
+use std::io::Print;
 
 // The longest script, in bytes.
 const SCRIPT_MOST: usize = 65536;
 
-// A line that is no remark: the line itself, and then what its call answers; a question mark where it is no call. The relay is handed on.
-fn play_line(rt: &impl Print, h: hall::Hall, line: &[u8]) -> io::Result<hall::Hall> {
-    let call = script::call(line);
-    if call == script::REMARK {
+// What a call answers, printed behind its line; the relay is handed on.
+fn answer(rt: &impl Print, h: Hall, call: Call, line: &[u8]) -> io::Result<Hall> {
+    match call {
+        Call::Text => characters::text(rt, line)?,
+        Call::Rest => layouts::rest(rt, line)?,
+        Call::HeadWhole => layouts::head_whole(rt, line)?,
+        Call::HeadPart => layouts::head_part(rt, line)?,
+        Call::HeadDescription => layouts::head_description(rt, line)?,
+        Call::HeadSkipped => layouts::head_skipped(rt, line)?,
+        Call::Sample => cutting::sample(rt, line)?,
+        Call::Enough => cutting::enough(rt, line)?,
+        Call::Short => cutting::short(rt, line)?,
+        Call::Description => cutting::description(rt, line)?,
+        Call::Modifiers => walk::modifiers(rt, line)?,
+        Call::Mark => times::mark(rt, line)?,
+        Call::MarkThree => times::mark_three(rt, line)?,
+        Call::Book => desks::book(rt, line)?,
+        Call::SetUp => return Ok(desks::set_up(line)),
+        Call::Receive => return desks::receive(rt, h, line),
+        Call::Send => return desks::send(rt, h, line),
+        Call::GiveUp => return desks::give_up(rt, h, line),
+        Call::Look => return desks::look(rt, h, line),
+    }
+    Ok(h)
+}
+
+// A line that is no remark: the line itself, and then what its call answers; a question mark where it is no call.
+fn play_line(rt: &impl Print, h: Hall, line: &[u8]) -> io::Result<Hall> {
+    if script::is_remark(line) {
         return Ok(h);
     }
     print::text(rt, line)?;
-    if call == script::NONE {
+    let Some(call) = script::call_of(line) else {
         print::text(rt, b" ?\n")?;
         return Ok(h);
-    }
+    };
     print::text(rt, b" =")?;
-    characters::play(rt, call, line)?;
-    layouts::play(rt, call, line)?;
-    cutting::play(rt, call, line)?;
-    walk::play(rt, call, line)?;
-    times::play(rt, call, line)?;
-    let after = desks::play(rt, h, call, line)?;
+    let after = answer(rt, h, call, line)?;
     print::end_line(rt)?;
     Ok(after)
 }
@@ -43,32 +63,14 @@ fn play_line(rt: &impl Print, h: hall::Hall, line: &[u8]) -> io::Result<hall::Ha
 // The lines one after the other.
 fn play(rt: &impl Print, text: &[u8]) -> io::Result<()> {
     let mut h = hall::set_up(1);
-    let mut at = 0;
-    while at < text.len() {
-        let line = script::line(text, at);
-        h = play_line(rt, h, line)?;
-        at += line.len() + 1;
+    for line in text.split_inclusive(|byte| *byte == b'\n') {
+        h = play_line(rt, h, line.strip_suffix(b"\n").unwrap_or(line))?;
     }
     Ok(())
 }
 
-// Reads until the buffer is full or the input ends, and answers how many bytes that were.
-fn read_full<R: Read>(input: &mut R, buf: &mut [u8]) -> io::Result<usize>
-    ensures { IfOk result (λ n. n ≤ length buf.new) }
-{
-    let mut done = 0;
-    while done < buf.len() {
-        let n = input.read(&mut buf[done..])?;
-        if n == 0 {
-            break;
-        }
-        done += n;
-    }
-    Ok(done)
-}
-
 fn main(rt: HostRuntime) -> io::Result<()> {
     let mut text = [0u8; SCRIPT_MOST];
-    let n = read_full(&mut rt.stdin(), &mut text)?;
+    let n = input::read_full(&mut rt.stdin(), &mut text)?;
     play(&rt, &text[..n])
 }

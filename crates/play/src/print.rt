@@ -20,10 +20,8 @@ pub(crate) fn number(rt: &impl Print, n: usize) -> io::Result<()> {
 }
 
 pub(crate) fn numbers(rt: &impl Print, s: &[usize]) -> io::Result<()> {
-    let mut i = 0;
-    while i < s.len() {
-        number(rt, s[i])?;
-        i += 1;
+    for n in s {
+        number(rt, *n)?;
     }
     Ok(())
 }
@@ -45,17 +43,14 @@ pub(crate) fn answer(rt: &impl Print, yes: bool) -> io::Result<()> {
 // Bytes in hexadecimal behind a colon.
 pub(crate) fn bytes(rt: &impl Print, s: &[u8]) -> io::Result<()> {
     text(rt, b" :")?;
-    let mut i = 0;
-    while i < s.len() {
-        let byte = octets::byte(s, i);
+    for byte in s {
         print!(rt; " {byte:02x}")?;
-        i += 1;
     }
     Ok(())
 }
 
 // What was laid into an output: its first sixteen bytes, and its last four with the two behind them.
 pub(crate) fn laid(rt: &impl Print, out: &[u8], n: usize) -> io::Result<()> {
-    bytes(rt, octets::cut(out, 0, octets::least(n, 16)))?;
-    bytes(rt, octets::cut(out, octets::less(n, 4), 6))
+    bytes(rt, octets::cut(out, 0, n.min(16)))?;
+    bytes(rt, octets::cut(out, n.saturating_sub(4), 6))
 }

@@ -17,18 +17,14 @@ fn found(rt: &impl Print, f: Result<Option<usize>, Refusal>) -> io::Result<()> {
 // What stands at a place (0 for the end, 1 and the type for a box), the next place, and the contents.
 fn place(rt: &impl Print, m: &[u8], at: usize) -> io::Result<()> {
     let s = boxes::step(m, at);
-    let f = s.found;
-    found(rt, f)?;
+    found(rt, s.found)?;
     print::number(rt, s.next)?;
     print::bytes(rt, boxes::contents(m, at))
 }
 
 // `modifiers AT BYTES`.
-pub(crate) fn play(rt: &impl Print, call: usize, line: &[u8]) -> io::Result<()> {
-    if call == script::MODIFIERS {
-        let mut m = [0u8; MODIFIERS_MOST];
-        let n = script::bytes(line, 2, &mut m);
-        place(rt, octets::cut(&m, 0, n), script::number(line, 1))?;
-    }
-    Ok(())
+pub(crate) fn modifiers(rt: &impl Print, line: &[u8]) -> io::Result<()> {
+    let mut m = [0u8; MODIFIERS_MOST];
+    let n = script::bytes(line, 2, &mut m);
+    place(rt, octets::cut(&m, 0, n), script::number(line, 1))
 }

@@ -8,7 +8,7 @@ ghost use Rattle.sizes.specs.Sizes.{place_size, needed};
 use paper::limits::{FINISHED_MOST, HEAD_SIZE, MARKS_EACH, PLACES_EACH, STORE_SIZE};
 use sample::Place;
 
-// So many for each of n desks; 0 where there is no relay for n desks.
+// So many for each of n desks; 0 where there is no relay for n desks, since the C interface has no Option.
 fn size_for(n: usize, each: usize) -> usize
     requires { each ≤ store_size }
     ensures { result ≡ needed (λ (m : ℕ). each * m) n }
