@@ -8,7 +8,7 @@ const STRING_MOST: usize = 20;
 
 // Of a string in the encoding u: the length of the character at a place, whether it is well-formed, and its boundary within a limit.
 fn show(rt: &impl Print, u: usize, s: &[u8], at: usize, limit: usize) -> io::Result<()> {
-    print::number(rt, finder::character(u, s, at))?;
+    print::number(rt, finder::character(u, s, at).unwrap_or(0))?;
     print::answer(rt, strings::well_formed(u, s))?;
     print::number(rt, strings::boundary(u, s, at, limit))
 }
