@@ -1,5 +1,7 @@
--- `numbers::put_all` meets its contract. A place that `saturating_add` answers for a larger one is past the end of any row. Assumes nothing.
-use Rattle.std.proofs.Common.{ℕ, ◌≡◌, ◌≤◌, ◌<◌, ◌+◌, min, arith, rules, sym, ◌∙◌, List, length, set, drop, add-zero, add-one, add-suc, length-drop}
+-- `numbers::put_all` meets its contract. A place that `saturating_add` answers for a larger one is past the end of any row.
+-- Assumes nothing.
+use Rattle.std.proofs.Common.{ℕ, ◌≡◌, ◌≤◌, ◌<◌, ◌+◌, min, arith, rules, sym, ◌∙◌, List, length}
+use Rattle.std.proofs.Common.{set, drop, add-zero, add-one, add-suc, length-drop}
 use Rattle.std.proofs.Math.Decide.{dec_lt}
 use Rattle.std.proofs.Math.Seq.{set_out}
 use Rattle.laws.specs.Region.{sets-turn, sets-stop}
