@@ -6,10 +6,9 @@ use Rattle.paper.specs.declared.Refusal.TheVariants as R
 use Rattle.paper.specs.Time.{Time}
 use Rattle.unit.specs.declared.Part.{Part}
 use Rattle.laws.specs.Rows.{◌⇒◌⁏◌}
-use Rattle.sample.specs.declared.Head.{Head}
 use Rattle.sample.specs.declared.Place.{Place}
 use Rattle.sample.specs.Place.{bare, closed}
-use Rattle.sample.specs.Head.{whole, alone, has-any, agrees-any}
+use Rattle.sample.specs.Head.{Head, whole, alone, has-any, agrees-any}
 use Rattle.desk.specs.Desk.{Own, After, answering, turn, refuse, conflicts, timed}
 use Rattle.asks.specs.Settled.{Settled, settled, open_in, laid, no_part, part_of, arrival_of}
 use Rattle.unit.specs.declared.Part as P

@@ -13,16 +13,15 @@ use Rattle.unit.specs.declared.Part as P
 use Rattle.unit.specs.declared.Unit.{Unit}
 use Rattle.unit.specs.declared.Unit.TheVariants.{End, Skipped, Refused, Whole, Part, Description}
 use Rattle.unit.specs.declared.Reading.{Reading}
-use Rattle.sample.specs.declared.Head.{Head}
 use Rattle.sample.specs.declared.Place.{Place}
-use Rattle.sample.specs.Head.{whole}
+use Rattle.sample.specs.Head.{Head, whole}
 use Rattle.sample.specs.Place.{closed}
 use Rattle.desk.specs.declared.Shares.{Shares}
 use Rattle.desk.specs.Desk.{Own, After, own, says, stay, six, used_up, part_at, taken, is_part}
 use Rattle.asks.specs.declared.Arrival.{Arrival}
 use Rattle.asks.specs.Bar.{Bar}
 
--- ---- a place whose numbers go by value and whose arrays are lent: before the call, and after it
+-- ---- a place of which the numbers are told and the arrays are lent: before the call, and after it
 abbrev Array : Type 0
 Array = Both (MutBor (List ℕ)) (MutBor (List ℕ))
 

@@ -12,9 +12,8 @@ use Rattle.paper.specs.Time.{Time}
 use Rattle.paper.specs.declared.Outcome.TheVariants as O
 use Rattle.paper.specs.declared.Answer.{Answer}
 use Rattle.unit.specs.declared.Part.{Part}
-use Rattle.sample.specs.declared.Head.{Head}
 use Rattle.sample.specs.declared.Place.{Place}
-use Rattle.sample.specs.Head.{head_of, whole, alone, missing-any}
+use Rattle.sample.specs.Head.{Head, head_of, whole, alone, missing-any}
 use Rattle.sample.specs.Place.{bare, closed, opened, agrees, stands, repeats, oversize, kept, missing}
 use Rattle.sample.specs.Kept.{opened-has}
 use Rattle.sample.specs.Repeat.{agrees-is}
@@ -120,7 +119,7 @@ module _ (h : Shares) (row marks store out : List ℕ) (desk time used : ℕ) (n
         ≡ joining h s time used next new x d
     new_kept e more = kept_new desk time x s used next d more ∙ new-now e
 
-  -- the same of the new place's numbers by value: n is the head that is opened
+  -- the same, told of the new place's numbers: n is the head that is opened
   module _ (n : Head) (New-is : n ≡ head_of new) (a b : Bool) (late : a ≡ is_late s time) (over : b ≡ oversize (alone n) x (length d))
       (g : Bar) (found : g ≡ barred a b h) where
     whole-over : b ≡ oversize new x (length d)

@@ -7,9 +7,8 @@ use Rattle.paper.specs.Limits.{sample_most, parts_most}
 use Rattle.paper.specs.declared.Refusal.TheVariants as R
 use Rattle.paper.specs.Time.{Time}
 use Rattle.paper.specs.declared.Outcome.TheVariants as O
-use Rattle.sample.specs.declared.Head.{Head}
 use Rattle.sample.specs.declared.Place.{Place}
-use Rattle.sample.specs.Head.{head_of, whole}
+use Rattle.sample.specs.Head.{Head, head_of, whole}
 use Rattle.sample.specs.Place.{bare, closed, missing, pieces_of}
 use Rattle.desk.specs.Desk.{Own, answering, left, completed, Turn, in_use, facts, freed, given_up}
 use Rattle.std.proofs.lemmas.List.Edits.{sets}

@@ -1,10 +1,22 @@
--- The numbers of a place, by value, and a place put together from them and the four arrays where they stand. Assumes nothing.
-use Rattle.std.specs.Prelude.{ℕ, ◌≡◌, List, []}
+-- The numbers of a place, and a place put together from them and its four arrays. Assumes nothing.
+use Rattle.std.specs.Prelude.{ℕ, Bool, ◌≡◌, List, []}
 use Rattle.std.proofs.Math.Path.{refl}
 use Rattle.unit.specs.declared.Part.{Part}
-use Rattle.sample.specs.declared.Head.{Head}
 use Rattle.sample.specs.declared.Place.{Place}
 use Rattle.sample.specs.Place.{has, alike, agrees, oversize, missing}
+
+pub record Head : Type 0 where
+  pub used : Bool
+  pub desk : ℕ
+  pub time : ℕ
+  pub total : ℕ
+  pub sdur : ℕ
+  pub told : Bool
+  pub u : ℕ
+  pub sidx : ℕ
+  pub slen : ℕ
+  pub mask : ℕ
+  pub filled : ℕ
 
 abbrev pub head_of : Place → Head
 head_of p =

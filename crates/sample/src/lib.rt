@@ -26,22 +26,6 @@ pub struct Place {
     pub bytes: [u8; SAMPLE_MOST],
 }
 
-// The numbers of a place, by value.
-#[derive(Clone, Copy)]
-pub struct Head {
-    pub used: bool,
-    pub desk: usize,
-    pub time: u32,
-    pub total: usize,
-    pub sdur: usize,
-    pub told: bool,
-    pub u: usize,
-    pub sidx: usize,
-    pub slen: usize,
-    pub mask: u32,
-    pub filled: usize,
-}
-
 // How long a sample's string is, and all of it.
 #[derive(Clone, Copy)]
 pub struct Lengths {
