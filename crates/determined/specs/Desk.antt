@@ -12,8 +12,7 @@ use Rattle.unit.specs.declared.Description.{Description}
 use Rattle.unit.specs.declared.Reading.{Reading}
 use Rattle.finished.specs.Times.{late, marked_row, marked_used}
 use Rattle.sample.specs.declared.Place.{Place}
-use Rattle.sample.specs.declared.Head.{Head}
-use Rattle.sample.specs.Head.{head_of, alone}
+use Rattle.sample.specs.Head.{Head, head_of, alone}
 use Rattle.sample.specs.Place.{bare, closed, opened}
 use Rattle.desk.specs.declared.Shares.{Shares}
 use Rattle.desk.specs.GivenUp.{GivenUp}
@@ -22,8 +21,7 @@ use Rattle.desk.specs.Desk.{completed, joining}
 use Rattle.desk.specs.Desk.{part_at, description_taken, freed, given_up}
 use Rattle.asks.specs.declared.Arrival.{Arrival}
 use Rattle.asks.specs.Bar.{Bar}
-use Rattle.asks.specs.declared.Settled.{Settled}
-use Rattle.asks.specs.Settled.{settled, open_in, laid_in, opening, barred, arrival_of, passed}
+use Rattle.asks.specs.Settled.{Settled, settled, open_in, laid_in, opening, barred, arrival_of, passed}
 use Rattle.determined.specs.Leaves.{Arrays, place_of, arrays_of}
 
 -- a place that is used or not, as told

@@ -28,9 +28,8 @@ use Rattle.boxes.specs.Step.{step_of, contents_of}
 use Rattle.finished.specs.Times.{late, marked_row, marked_used}
 use Rattle.joining.specs.Joining.{together, string_of, sound}
 use Rattle.sample.specs.declared.Place.{Place}
-use Rattle.sample.specs.declared.Head.{Head}
 use Rattle.sample.specs.declared.Lengths.{Lengths}
-use Rattle.sample.specs.Head.{head_of as numbers_of, whole, alone}
+use Rattle.sample.specs.Head.{Head, head_of as numbers_of, whole, alone}
 use Rattle.sample.specs.Place as P
 use Rattle.style.specs.Checked.{Checked}
 use Rattle.style.specs.declared.Noted.{Noted}

@@ -1,5 +1,6 @@
 pub mod Leaves
 pub mod Desk
+pub mod Places
 pub mod Steps
 pub mod Relay
 pub mod Faces

@@ -13,8 +13,7 @@ use Rattle.paper.specs.declared.Name.{Name}
 use Rattle.paper.specs.declared.Sender.{Sender}
 use Rattle.unit.specs.declared.Reading.{Reading}
 use Rattle.sample.specs.declared.Place.{Place}
-use Rattle.sample.specs.declared.Head.{Head}
-use Rattle.sample.specs.Head.{head_of}
+use Rattle.sample.specs.Head.{Head, head_of}
 use Rattle.sample.specs.Place.{bare, closed}
 use Rattle.style.specs.Shown.{shown}
 use Rattle.desk.specs.declared.Shares.{Shares}
