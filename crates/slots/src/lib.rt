@@ -35,7 +35,7 @@ pub fn forget(store: &mut [u8], newest: usize, new: usize)
 fn record_of(v: usize, d: &[u8]) -> [u8; RECORD_SIZE]
     ensures { result ≡ record_of v d.now }
 {
-    let [high, low] = ((d.len() % 65536) as u16).to_be_bytes();
+    let [high, low] = octets::bytes::<2>(d.len());
     let head = [(v % 256) as u8, 0, high, low];
     let mut r = [0; RECORD_SIZE];
     octets::put(&mut r, 0, &head);
