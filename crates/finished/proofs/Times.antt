@@ -1,31 +1,24 @@
 -- A desk's finished times, the last sixteen: they stand at the front of its row in order of finishing, the oldest first.
 -- Assumes nothing.
-use Rattle.std.specs.Prelude.{ℕ, suc, ◌+◌, ◌-◌, ◌≤◌, ◌<◌, min, ◌≡◌, refl, Bool, true, false, ◌||◌, nat_eq, List, [], ◌∷◌, length, take, drop, set, get_or}
-use Rattle.std.proofs.Common.{arith, add-one, zero-add, ap, sym, ◌∙◌, length-drop, length-take, drop-cons, drop_of_length-le}
+use Rattle.std.specs.Prelude.{ℕ, ◌-◌, min, ◌≡◌, refl, Bool, true, false, ◌||◌, nat_eq, List, [], ◌∷◌, length, take, drop, set}
+use Rattle.std.proofs.Common.{arith, zero-add, ap, sym, ◌∙◌, length-drop, length-take}
 use Rattle.std.proofs.lemmas.List.Edits.{sets, sets-eq}
+use Rattle.std.specs.List.{list_any}
 use Rattle.std.proofs.Math.Seq.{paste}
 use Rattle.laws.specs.Rows.{◌⇒◌⁏◌, ◌or◌, ◌=?◌}
 use Rattle.laws.specs.Region.{part, take_min, sets-full, sets-append}
 use Rattle.paper.specs.Limits.{finished_most}
 use Rattle.finished.specs.Times.{among, down, moved_row}
 
--- ---- a turn of the search: a hit so far, or at i, or what is ahead then
-module _ (xs : List ℕ) (time i : ℕ) where
-  pub late-turn : (hit : Bool) → i < length xs → (hit or among (drop i xs) time) ≡ ((hit || nat_eq (get_or xs i 0) time) or among (drop (i + 1) xs) time)
-  unfolding among ◌⇒◌⁏◌ ◌=?◌
-  late-turn hit h = rw (drop-cons xs i 0 h, add-one i) (go hit (nat_eq (get_or xs i 0) time))
-    where
-      go : (a b : Bool) → (a or (b or among (drop (suc i) xs) time)) ≡ ((a || b) or among (drop (suc i) xs) time)
-      go true b = refl
-      go false b = refl
-
-  pub late-end : (hit : Bool) → length xs ≤ i → hit ≡ (hit or among (drop i xs) time)
-  unfolding among ◌⇒◌⁏◌
-  late-end hit h = rw (drop_of_length-le xs h) (go hit)
-    where
-      go : (a : Bool) → a ≡ (a or among [] time)
-      go true = refl
-      go false = refl
+-- `contains` goes through the row in the same order
+pub among-any : (xs : List ℕ) (time : ℕ) → list_any (λ (x : ℕ). nat_eq x time) xs ≡ among xs time
+unfolding among ◌⇒◌⁏◌ ◌=?◌
+among-any [] time = refl
+among-any (x ∷ xs) time = go (nat_eq x time) (among-any xs time)
+  where
+    go : (b : Bool) → list_any (λ (x : ℕ). nat_eq x time) xs ≡ among xs time → (b || list_any (λ (x : ℕ). nat_eq x time) xs) ≡ (b or among xs time)
+    go true e = refl
+    go false e = e
 
 -- ---- the others move down, and the time itself is the last
 module _ (row : List ℕ) (time n : ℕ) (e : n ≡ min (length row) finished_most) where

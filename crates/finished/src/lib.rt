@@ -13,15 +13,11 @@ fn held(row: &[u32], used: usize) -> &[u32]
     octets::cut(row, 0, used.min(FINISHED_MOST))
 }
 
-// Whether the time is a finished one. The loop has no early exit, as `contains` has one, so that it is vectorised.
+// Whether the time is a finished one.
 pub fn is_late(row: &[u32], used: usize, time: u32) -> bool
     ensures { result ≡ late row.now used time }
 {
-    let mut hit = false;
-    for finished in held(row, used) {
-        hit |= *finished == time;
-    }
-    hit
+    held(row, used).contains(&time)
 }
 
 // The oldest goes, the others move down, and the time is the last.
