@@ -21,14 +21,9 @@ use Rattle.memory.specs.Started.{Started}
 use Rattle.sample.specs.declared.Place.{Place}
 use Rattle.memory.specs.Relay.{Tables, tables, Prepared, prepared, set_up, Done, done, received_at, Released, released, given_up_at, looked_up}
 use Rattle.memory.specs.Relay.{started_number}
-use Rattle.held.specs.declared.Begun.{Begun}
-use Rattle.held.specs.declared.Called.{Called}
-use Rattle.held.specs.declared.Yielded.{Yielded}
-use Rattle.held.specs.Held.{begun, called, yielded}
+use Rattle.held.specs.Held.{Begun, Called, Yielded, begun, called, yielded}
 use Rattle.hall.specs.declared.Hall.{Hall}
-use Rattle.hall.specs.declared.Heard.{Heard}
-use Rattle.hall.specs.declared.Freed.{Freed}
-use Rattle.hall.specs.Hall.{tables_of, lent, heard, freed}
+use Rattle.hall.specs.Hall.{Heard, Freed, tables_of, lent, heard, freed}
 use Rattle.export.specs.Export.{Numbered, numbered, started_as, released_as, Rowed, rowed, done_as, Wrote, wrote, written_as}
 use Rattle.numbers.specs.Numbers.{checked_row, written_row, stepped_row, name_of, sent_by}
 use Rattle.answers.specs.Answers.{answer_row, row_most}

@@ -3,11 +3,18 @@ use Rattle.std.specs.Prelude.{ℕ, ◌≡◌, refl, true, replicate}
 use Rattle.std.proofs.Common.{sym, ap, ◌∙◌}
 use Rattle.laws.specs.Rows.{◌⇒◌⁏◌, ◌or◌, ◌<?◌, ◌=?◌, yes}
 use Rattle.paper.specs.Limits.{places_most, rows_most, marks_most, stores_most}
+use Rattle.paper.specs.declared.Answer.{Answer}
 use Rattle.sample.specs.Place.{closed}
+use Rattle.desk.specs.GivenUp.{GivenUp}
 use Rattle.memory.specs.Relay.{Tables, tables, Done, done, Released, released, Prepared, desks_of, improper, stranger, lacking, set_up}
 use Rattle.hall.specs.declared.Hall.{Hall}
-use Rattle.hall.specs.declared.Heard.{Heard}
-use Rattle.hall.specs.declared.Freed.{Freed}
+use Rattle.hall.specs.declared.Told.{Told}
+
+abbrev pub Heard : Type 0
+Heard = Told Answer
+
+abbrev pub Freed : Type 0
+Freed = Told GivenUp
 
 abbrev pub tables_of : Hall → Tables
 tables_of h = tables h.places h.rows h.marks h.stores

@@ -19,16 +19,11 @@ pub struct Hall {
     pub out: [u8; SAMPLE_MOST],
 }
 
+// The memory after a call, and what the call answered.
 #[derive(Clone, Copy)]
-pub struct Heard {
+pub struct Told<A> {
     pub hall: Hall,
-    pub answer: Answer,
-}
-
-#[derive(Clone, Copy)]
-pub struct Freed {
-    pub hall: Hall,
-    pub answer: Result<(), Refusal>,
+    pub answer: A,
 }
 
 // A relay for n desks, set up in memory that holds something else. Nine is no number of desks: where set-up is refused, so is every call.
@@ -51,7 +46,7 @@ pub fn set_up(n: usize) -> Hall
 }
 
 // One call of a desk.
-pub fn receive(h: Hall, who: Sender, rest: &[u8]) -> Heard
+pub fn receive(h: Hall, who: Sender, rest: &[u8]) -> Told<Answer>
     ensures { heard result ≡ received_at (tables_of h) who rest.now h.out }
 {
     let places = h.places;
@@ -70,7 +65,7 @@ pub fn receive(h: Hall, who: Sender, rest: &[u8]) -> Heard
     );
     let after = r.places;
     let answer = r.answer;
-    Heard {
+    Told {
         hall: Hall {
             places: after,
             rows,
@@ -83,7 +78,7 @@ pub fn receive(h: Hall, who: Sender, rest: &[u8]) -> Heard
 }
 
 // A desk gives its sample of a time up.
-pub fn give_up(h: Hall, who: Name) -> Freed
+pub fn give_up(h: Hall, who: Name) -> Told<Result<(), Refusal>>
     ensures { (freed result ≡ given_up_at (tables_of h) who) × (result.hall.out ≡ h.out) }
 {
     let places = h.places;
@@ -94,7 +89,7 @@ pub fn give_up(h: Hall, who: Name) -> Freed
     let r = held::give_up(places, &mut rows, &mut marks, who);
     let after = r.places;
     let answer = r.answer;
-    Freed {
+    Told {
         hall: Hall {
             places: after,
             rows,

@@ -6,9 +6,16 @@ use Rattle.desk.specs.GivenUp.{GivenUp}
 use Rattle.memory.specs.Started.{Started}
 use Rattle.memory.specs.Relay.{tables}
 use Rattle.memory.specs.Lent.{Slice, Lent}
-use Rattle.held.specs.declared.Begun.{Begun}
-use Rattle.held.specs.declared.Called.{Called}
-use Rattle.held.specs.declared.Yielded.{Yielded}
+use Rattle.held.specs.declared.With.{With}
+
+abbrev pub Begun : Type 0
+Begun = With Started
+
+abbrev pub Called : Type 0
+Called = With Answer
+
+abbrev pub Yielded : Type 0
+Yielded = With GivenUp
 
 abbrev pub begun : List Place → Started → Begun
 begun places answer = record { places = places; answer = answer }

@@ -2,48 +2,18 @@
 // on them.
 #![tactic(auto)]
 
-ghost use Rattle.std.specs.Prelude.{◌≡◌};
 ghost use Rattle.memory.specs.Lent.{SetsUp, Receives, GivesUp};
-ghost use Rattle.held.specs.Held.{begun, called, yielded, kept, kept_three};
+ghost use Rattle.held.specs.Held.{kept, kept_three};
 
 use paper::limits::PLACES_MOST;
 use paper::{Answer, Name, Refusal, Sender};
 use sample::Place;
 
+// A table after a call, and what the call answered.
 #[derive(Clone, Copy)]
-pub struct Begun {
+pub struct With<A> {
     pub places: [Place; PLACES_MOST],
-    pub answer: Result<(), Refusal>,
-}
-
-#[derive(Clone, Copy)]
-pub struct Called {
-    pub places: [Place; PLACES_MOST],
-    pub answer: Answer,
-}
-
-#[derive(Clone, Copy)]
-pub struct Yielded {
-    pub places: [Place; PLACES_MOST],
-    pub answer: Result<(), Refusal>,
-}
-
-fn begun_of(places: [Place; PLACES_MOST], answer: Result<(), Refusal>) -> Begun
-    ensures { result ≡ begun places answer }
-{
-    Begun { places, answer }
-}
-
-fn called_of(places: [Place; PLACES_MOST], answer: Answer) -> Called
-    ensures { result ≡ called places answer }
-{
-    Called { places, answer }
-}
-
-fn yielded_of(places: [Place; PLACES_MOST], answer: Result<(), Refusal>) -> Yielded
-    ensures { result ≡ yielded places answer }
-{
-    Yielded { places, answer }
+    pub answer: A,
 }
 
 pub fn set_up(
@@ -52,12 +22,12 @@ pub fn set_up(
     rows: &mut [u32],
     marks: &mut [u32],
     stores: &mut [u8],
-) -> Begun
+) -> With<Result<(), Refusal>>
     ensures { SetsUp n (kept places result.places rows marks stores) result.answer }
 {
     let mut t = places;
     let answer = relay::set_up(n, &mut t, rows, marks, stores);
-    begun_of(t, answer)
+    With { places: t, answer }
 }
 
 pub fn receive(
@@ -68,12 +38,12 @@ pub fn receive(
     who: Sender,
     rest: &[u8],
     out: &mut [u8],
-) -> Called
+) -> With<Answer>
     ensures { Receives (kept places result.places rows marks stores) who rest out result.answer }
 {
     let mut t = places;
     let answer = relay::receive(&mut t, rows, marks, stores, who, rest, out);
-    called_of(t, answer)
+    With { places: t, answer }
 }
 
 pub fn give_up(
@@ -81,10 +51,10 @@ pub fn give_up(
     rows: &mut [u32],
     marks: &mut [u32],
     who: Name,
-) -> Yielded
+) -> With<Result<(), Refusal>>
     ensures { GivesUp (kept_three places result.places rows marks) who result.answer }
 {
     let mut t = places;
     let answer = relay::give_up(&mut t, rows, marks, who);
-    yielded_of(t, answer)
+    With { places: t, answer }
 }

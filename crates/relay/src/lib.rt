@@ -1,5 +1,6 @@
 // The relay for up to eight desks over memory that the caller lends: set-up, receive, give-up and lookup. What decides is in `gate`,
 // `looks`, `takes` and `yields`; here are the functions over the lent places, which look at them, lend one and hand on all else.
+// The four tables are no struct: C lends set-up and receive all four, give-up three and lookup two.
 #![tactic(auto)]
 
 ghost use Rattle.std.specs.Prelude.{◌≡◌, true, false};
