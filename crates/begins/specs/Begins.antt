@@ -125,6 +125,9 @@ module _ (h : Shares) (row marks store out : List ℕ) (desk time used : ℕ) (n
     whole-over : b ≡ oversize new x (length d)
     whole-over = over ∙ over-alone desk time x n New-is (length d)
 
+    found-is : unbarred g ≡ joining h s time used next new x d
+    found-is = found-in a b late whole-over g found
+
     pub opens_not : (r : Refusal) → g ≡ Err r → refuse s used next r ≡ joining h s time used next new x d
     opens_not = new_not a b late whole-over g found
 

@@ -2,7 +2,7 @@
 use Rattle.std.specs.Prelude.{ℕ, zero, suc, ◌+◌, ◌<◌, ◌≤◌, ◌≡◌, refl, Bool, Option, Some, None, List, ◌++◌, length, drop, get_or}
 use Rattle.std.proofs.Common.{arith, sym, ap, ◌∙◌, length-take, length-drop, drop-cons}
 use Rattle.std.proofs.Math.Bool.{true, false}
-use Rattle.laws.specs.Rows.{◌⇒◌⁏◌, ◌<?◌, ◌=?◌, yes, no, lt, ge, eq, ne}
+use Rattle.laws.specs.Rows.{◌⇒◌⁏◌, ◌<?◌, ◌=?◌, yes, no, lt_of, lt, ge, eq, ne}
 use Rattle.laws.specs.Exactly.{Exactly}
 use Rattle.octets.specs.Be.{u8_at}
 use Rattle.text.specs.declared.Row.{Row}
@@ -71,3 +71,46 @@ pub ruleset finding = (yes, no, lt, ge, eq, ne, eight_is, within-not)
 pub one_bit : (U : ℕ) (s : List ℕ) → (U ≡ 0 → ⊥) → character 1 s ≡ character U s
 unfolding character
 one_bit U s h = rw (ne U 0 h, ne 1 0 (λ e. omega arith))
+
+-- ---- the same, told of a number that was answered
+module _ (n : ℕ) (s : List ℕ) where
+  pub by-chart : n ≡ charted chart s → n ≡ character 0 s
+  unfolding character
+  by-chart h = yes _ _ (eq 0 0 refl) h
+
+  pub by_units : n ≡ paired s → n ≡ character 1 s
+  unfolding character
+  by_units h = no _ _ (ne 1 0 (λ e. omega arith)) h
+
+-- how a proof walks the chart: the k-th of its rows is asked for the lead byte b, and passed over where b is none of its leads; else it
+-- answers. Behind the last row there is none
+module _ (k : ℕ) (s : List ℕ) (n : ℕ) (rows : List Row) (d : Row) (t : Bool) (b : ℕ)
+    (h : k < 9) (e : rows ≡ chart) (asked : t ≡ within (get_or rows k d).0 b) (lead : b ≡ u8_at s 0) where
+  asked_of : (v : Bool) → t ≡ v → within (get_or chart k d).0 (u8_at s 0) ≡ v
+  asked_of v g = saw (within (get_or chart k d).0) t b (u8_at s 0) v (asked ∙ ap (λ (l : List Row). within (get_or l k d).0 b) e) lead g
+
+  pub row-passed : t ≡ false → n ≡ charted (drop (suc k) chart) s → n ≡ charted (drop k chart) s
+  unfolding charted chart
+  row-passed g on = rw (drop-cons chart k d h) (no _ _ (asked_of false g) on)
+
+  pub row_told : t ≡ true → n ≡ (follows (get_or rows k d) s ⇒ (get_or rows k d).2 ⁏ 0) → n ≡ charted (drop k chart) s
+  unfolding charted chart
+  row_told g on = rw (drop-cons chart k d h) (yes _ _ (asked_of true g) (rw e at on))
+
+-- a lead byte past the last row of three bytes asks none of them
+skipped : (s : List ℕ) → 0xEF < u8_at s 0 → charted (drop 6 chart) s ≡ charted (drop 2 chart) s
+unfolding charted chart
+skipped s h =
+    no _ _ (within-not _ _ (omega arith))
+    (no _ _ (within-not _ _ (omega arith)) (no _ _ (within-not _ _ (omega arith)) (no _ _ (within-not _ _ (omega arith)) refl)))
+
+pub rows-skipped : (s : List ℕ) (rows : List Row) (d : Row) (t : Bool) (b : ℕ)
+    → rows ≡ chart → t ≡ ((get_or rows 5 d).0.1 <? b) → b ≡ u8_at s 0 → t ≡ true → charted (drop 6 chart) s ≡ charted (drop 2 chart) s
+unfolding chart
+rows-skipped s rows d t b e asked lead h =
+    let p : (0xEF <? b) ≡ true = ap (λ (l : List Row). (get_or l 5 d).0.1 <? b) (sym e) ∙ sym asked ∙ h in
+    skipped s (omega (arith, lt_of _ _ p, lead))
+
+pub rows_end : (s : List ℕ) → 0 ≡ charted (drop 9 chart) s
+unfolding charted chart
+rows_end s = refl
