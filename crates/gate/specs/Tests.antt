@@ -1,6 +1,7 @@
 -- What the tests of 1 and 2 tell of the sizes, once they are passed. Assumes nothing.
 use Rattle.gate.specs.Passes.{Through}
 use Rattle.std.specs.Prelude.{ℕ, ◌+◌, ◌*◌, ◌^◌, ◌≤◌, ◌<◌, ◌≡◌, refl, Bool, Ok, Err}
+use Rattle.std.specs.Result.{OnOk}
 use Rattle.std.proofs.Common.{arith, sym, ◌∙◌, true≢false}
 use Rattle.std.proofs.Math.Path.{ap}
 use Rattle.std.proofs.Math.Bool.{true, false}
@@ -10,7 +11,7 @@ use Rattle.paper.specs.declared.Refusal.{Refusal}
 use Rattle.paper.specs.declared.Refusal.TheVariants as R
 use Rattle.memory.specs.Relay.{improper, stranger, short, lacks, lacks_three}
 use Rattle.gate.specs.Passes.{Gate}
-use Rattle.gate.specs.Gate.{gate_of}
+use Rattle.gate.specs.Gate.{gate_of, Holds}
 
 pub either : (a b : Bool) → a ≡ true → (a or b) ≡ true
 either a b h = sym (yes a b h refl)
@@ -143,3 +144,11 @@ module _ (n table rows marks stores desk out : ℕ) (g : Gate) (f : g ≡ gate_o
 pub gate-at : (k n table rows marks told stores desk out : ℕ) (g : Gate) → g ≡ gate_of k table rows marks told desk out
     → k ≡ n → stores ≡ told → g ≡ gate_of n table rows marks stores desk out
 gate-at k n table rows marks told stores desk out g h e f = h ∙ rw (e, f)
+
+-- a gate that is through leaves the desk's own things within what is lent
+pub held : (n table rows marks stores desk out : ℕ) (g : Gate) → g ≡ gate_of n table rows marks stores desk out
+    → OnOk g (Holds desk rows marks stores)
+held n table rows marks stores desk out (Err r) f = tt
+held n table rows marks stores desk out (Ok u) f =
+    let k = fits n table rows marks stores desk out (Ok u) f refl in
+    (desk-few k.0, (row_within k.0, (mark-within k.0, store-within k)))

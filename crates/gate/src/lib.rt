@@ -1,16 +1,18 @@
 // Refusals 1 and 2, asked of the numbers and of the lengths of all that is lent.
 #![tactic(auto)]
 
-ghost use Rattle.std.specs.Prelude.{◌≡◌, ◌≤◌, length};
-ghost use Rattle.paper.specs.Limits.{desks_most};
+ghost use Rattle.std.specs.Prelude.{◌≡◌, ◌≤◌, ◌<◌, ◌+◌, ◌*◌, length};
+ghost use Rattle.std.specs.Result.{OnOk};
+ghost use Rattle.paper.specs.Limits.{desks_most, finished_most, head_size, marks_each, store_size};
 ghost use Rattle.memory.specs.Relay.{desks_of, improper, stranger, lacks, lacks_three};
-ghost use Rattle.gate.specs.Gate.{gate_of};
+ghost use Rattle.gate.specs.Gate.{gate_of, Holds};
 
 use paper::Refusal;
 use paper::limits::{
     DESKS_AT, DESKS_MOST, FINISHED_MOST, HEAD_SIZE, MARKS_EACH, PLACES_EACH, SAMPLE_MOST,
     STORE_SIZE,
 };
+use std::ops::Range;
 
 // How much is lent to a call: of each table, how many elements.
 #[derive(Clone, Copy)]
@@ -40,6 +42,7 @@ pub fn is_stranger(n: usize, desk: usize) -> bool
     is_improper(n) || n <= desk
 }
 
+// n ≤ desks_most stays asked: behind is_stranger and fit, whose answers hold no number, a checked `Desks` adds a None never met.
 pub fn lacks_three(n: usize, places: usize, rows: usize, marks: usize) -> bool
     requires { n ≤ desks_most }
     ensures { result ≡ lacks_three n places rows marks }
@@ -65,4 +68,50 @@ pub fn gate_of(n: usize, room: Room, desk: usize, out: &[u8]) -> Result<(), Refu
         return Err(Refusal::Output);
     }
     Ok(())
+}
+
+// 1 and 2 of a call, by the number of desks that set-up put down. Behind them the desk's own things lie within what is lent.
+pub fn gate_at(
+    table: usize,
+    rows: &[u32],
+    marks: &[u32],
+    stores: usize,
+    desk: usize,
+    out: &[u8],
+) -> Result<(), Refusal>
+    ensures why { result ≡ gate_of (desks_of marks.now) table (length rows.now) (length marks.now) stores desk (length out.now) }
+    ensures own { OnOk result (Holds desk (length rows.now) (length marks.now) stores) }
+{
+    let room = Room {
+        places: table,
+        rows: rows.len(),
+        marks: marks.len(),
+        stores,
+    };
+    gate_of(desks_of(marks), room, desk, out)
+}
+
+// Where a desk's own things stand: its finished times, its marks and its descriptions.
+pub fn row_of(desk: usize) -> Range<usize>
+    requires { desk < desks_most }
+    ensures { (result.start ≡ finished_most * desk) × (result.end ≡ finished_most * desk + finished_most) }
+{
+    let at = FINISHED_MOST * desk;
+    at..at + FINISHED_MOST
+}
+
+pub fn marks_of(desk: usize) -> Range<usize>
+    requires { desk < desks_most }
+    ensures { (result.start ≡ head_size + marks_each * desk) × (result.end ≡ head_size + marks_each * desk + marks_each) }
+{
+    let at = HEAD_SIZE + MARKS_EACH * desk;
+    at..at + MARKS_EACH
+}
+
+pub fn store_of(desk: usize) -> Range<usize>
+    requires { desk < desks_most }
+    ensures { (result.start ≡ store_size * desk) × (result.end ≡ store_size * desk + store_size) }
+{
+    let at = STORE_SIZE * desk;
+    at..at + STORE_SIZE
 }

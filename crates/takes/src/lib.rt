@@ -8,8 +8,6 @@ ghost use Rattle.asks.specs.Settled.{open_in};
 ghost use Rattle.steps.specs.Plan.{plan, part_planned, laid_plan, counted_plan};
 
 use asks::Arrival;
-use gate::Room;
-use paper::limits::{FINISHED_MOST, HEAD_SIZE, MARKS_EACH};
 use paper::{Answer, Outcome, Sender};
 use sample::Place;
 
@@ -31,29 +29,20 @@ pub fn step(
         ≡ counted_plan who.desk p.old.used (laid_plan p.old
         (part_planned table (open_in p.old) rows.old marks.old stores out.old who x rest.now)) }
 {
-    let n = gate::desks_of(marks);
     let t = who.time;
-    let room = Room {
-        places: table,
-        rows: rows.len(),
-        marks: marks.len(),
-        stores: store_len,
-    };
-    let g = gate::gate_of(n, room, who.desk, out);
+    let g = gate::gate_at(table, rows, marks, store_len, who.desk, out);
     match g {
         Err(why) => asks::says(0, t, Outcome::Refused(why)),
         Ok(()) => {
-            let h = tally::shares(marks, n, who.desk);
-            let row = FINISHED_MOST * who.desk;
-            let mark = HEAD_SIZE + MARKS_EACH * who.desk;
+            let h = tally::shares(marks, gate::desks_of(marks), who.desk);
             let d = octets::cut(rest, x.part.start, x.part.len);
             let was = p.used;
             let answer = settle::take_part(
                 h,
                 who.desk,
                 p,
-                &mut rows[row..row + FINISHED_MOST],
-                &mut marks[mark..mark + MARKS_EACH],
+                &mut rows[gate::row_of(who.desk)],
+                &mut marks[gate::marks_of(who.desk)],
                 t,
                 x,
                 d,
@@ -82,27 +71,18 @@ pub fn step_lost(
         ≡ part_planned table closed rows.old marks.old stores out.old who x
         rest.now }
 {
-    let n = gate::desks_of(marks);
     let t = who.time;
-    let room = Room {
-        places: table,
-        rows: rows.len(),
-        marks: marks.len(),
-        stores: store_len,
-    };
-    let g = gate::gate_of(n, room, who.desk, out);
+    let g = gate::gate_at(table, rows, marks, store_len, who.desk, out);
     match g {
         Err(why) => asks::says(0, t, Outcome::Refused(why)),
         Ok(()) => {
-            let h = tally::shares(marks, n, who.desk);
-            let row = FINISHED_MOST * who.desk;
-            let mark = HEAD_SIZE + MARKS_EACH * who.desk;
+            let h = tally::shares(marks, gate::desks_of(marks), who.desk);
             let d = octets::cut(rest, x.part.start, x.part.len);
             settle::lose(
                 h,
                 who.desk,
-                &mut rows[row..row + FINISHED_MOST],
-                &mut marks[mark..mark + MARKS_EACH],
+                &mut rows[gate::row_of(who.desk)],
+                &mut marks[gate::marks_of(who.desk)],
                 t,
                 x,
                 d,

@@ -5,8 +5,6 @@ ghost use Rattle.std.specs.Prelude.{◌≡◌};
 ghost use Rattle.sample.specs.declared.Place.{Place};
 ghost use Rattle.steps.specs.Plan.{plan, pass_planned, yield, yielding, place_after};
 
-use gate::Room;
-use paper::limits::{FINISHED_MOST, HEAD_SIZE, MARKS_EACH, STORE_SIZE};
 use paper::{Answer, Name, Outcome, Refusal, Sender};
 use unit::Reading;
 
@@ -27,26 +25,16 @@ pub fn pass_step(
         ≡ pass_planned table p rows.old marks.old stores.old out.old who r
         rest.now }
 {
-    let n = gate::desks_of(marks);
     let t = who.time;
-    let room = Room {
-        places: table,
-        rows: rows.len(),
-        marks: marks.len(),
-        stores: stores.len(),
-    };
-    let g = gate::gate_of(n, room, who.desk, out);
+    let g = gate::gate_at(table, rows, marks, stores.len(), who.desk, out);
     match g {
         Err(why) => asks::says(0, t, Outcome::Refused(why)),
         Ok(()) => {
-            let row = FINISHED_MOST * who.desk;
-            let mark = HEAD_SIZE + MARKS_EACH * who.desk;
-            let store = STORE_SIZE * who.desk;
             others::pass(
                 is_open,
-                &mut rows[row..row + FINISHED_MOST],
-                &mut marks[mark..mark + MARKS_EACH],
-                &mut stores[store..store + STORE_SIZE],
+                &mut rows[gate::row_of(who.desk)],
+                &mut marks[gate::marks_of(who.desk)],
+                &mut stores[gate::store_of(who.desk)],
                 t,
                 r,
                 rest,
@@ -72,12 +60,10 @@ pub fn yield_step(
     if gate::is_stranger(n, who.desk) || gate::lacks_three(n, table, rows.len(), marks.len()) {
         return Err(Refusal::Desk);
     }
-    let row = FINISHED_MOST * who.desk;
-    let mark = HEAD_SIZE + MARKS_EACH * who.desk;
     let g = ends::give_up(
         is_open,
-        &mut rows[row..row + FINISHED_MOST],
-        &mut marks[mark..mark + MARKS_EACH],
+        &mut rows[gate::row_of(who.desk)],
+        &mut marks[gate::marks_of(who.desk)],
         who.time,
     );
     tally::count(marks, who.desk, is_open, false);

@@ -1,49 +1,26 @@
 -- `takes::step_lost` meets its contract: a gate that is shut leaves all as it was, and else the desk takes the part. Assumes nothing.
-use native.Mathlib.Omega.{arith}
 use Prim.Native.Nat.{ℕ}
-use mathlib.Core.Path.{ap, ◌∙◌}
+use mathlib.Core.Path.{refl, ap, ◌∙◌}
 use Rattle.sample.specs.Place.{closed}
 use Rattle.memory.specs.Relay.{store_of, stored_shares}
-use Rattle.gate.specs.Tests.{gate-at, desk-few}
-use Rattle.gate.specs.Tests.{row-start, mark-each, mark-start, row-end, row-byte, row_within, mark-within}
-use Rattle.steps.specs.Steps.{room, lost-shut, lost-through}
+use Rattle.gate.specs.Tests.{gate-at}
+use Rattle.steps.specs.Steps.{lost-shut, lost-through}
 use Rattle.takes.proofs.step_lost.Goals as goal
-
-pub shares-h-requires : goal.shares-h-requires
-shares-h-requires c = desk-few (room c.args.marks.now _ _ _ _ _ _ _ c.gate_of-g.ensures c.desks_of-n.ensures c.in-Ok.is).0
-
-pub overflow_mul-row : goal.overflow_mul-row
-overflow_mul-row c = record { fits = row-start (room c.args.marks.now _ _ _ _ _ _ _ c.gate_of-g.ensures c.desks_of-n.ensures c.in-Ok.is).0 }
-
-pub overflow_mul-mark : goal.overflow_mul-mark
-overflow_mul-mark c = record { fits = mark-each (room c.args.marks.now _ _ _ _ _ _ _ c.gate_of-g.ensures c.desks_of-n.ensures c.in-Ok.is).0 }
-
-pub overflow_add-mark : goal.overflow_add-mark
-overflow_add-mark c = record { fits = mark-start (room c.args.marks.now _ _ _ _ _ _ _ c.gate_of-g.ensures c.desks_of-n.ensures c.in-Ok.is).0 }
-
-pub overflow_add-row : goal.overflow_add-row
-overflow_add-row c = record { fits = row-end (room c.args.marks.now _ _ _ _ _ _ _ c.gate_of-g.ensures c.desks_of-n.ensures c.in-Ok.is).0 }
-
-pub offset_bounds-rows-row : goal.offset_bounds-rows-row
-offset_bounds-rows-row c = record { fits = row-byte (room c.args.marks.now _ _ _ _ _ _ _ c.gate_of-g.ensures c.desks_of-n.ensures c.in-Ok.is).0 }
-
-pub slice_bounds-lose-end : goal.slice_bounds-lose-end
-slice_bounds-lose-end c = omega (arith, row_within (room c.args.marks.now _ _ _ _ _ _ _ c.gate_of-g.ensures c.desks_of-n.ensures c.in-Ok.is).0)
-
-pub slice_bounds-lose-end-in-Ok : goal.slice_bounds-lose-end-in-Ok
-slice_bounds-lose-end-in-Ok c = omega (arith, mark-within (room c.args.marks.now _ _ _ _ _ _ _ c.gate_of-g.ensures c.desks_of-n.ensures c.in-Ok.is).0)
 
 pub returns-in-Err : goal.returns-in-Err
 returns-in-Err c = λ stores len.
     let a = c.args in
-    let f = gate-at _ _ _ _ _ _ _ _ _ _ c.gate_of-g.ensures c.desks_of-n.ensures len in
+    let f = gate-at _ _ _ _ _ _ _ _ _ _ c.gate_at-g.ensures.why refl len in
     lost-shut a.table closed a.rows.now a.marks.now stores a.out.now a.who a.x a.rest.now _ f _
     c.in-Err.is _ c.says.ensures
 
 pub returns-in-Ok : goal.returns-in-Ok
 returns-in-Ok c = λ stores len.
     let a = c.args in
-    let f = gate-at _ _ _ _ _ _ _ _ _ _ c.gate_of-g.ensures c.desks_of-n.ensures len in
-    let h = c.shares-h.ensures ∙ ap (λ (n : ℕ). stored_shares n a.who.desk a.marks.now) c.desks_of-n.ensures in
-    lost-through a.table closed a.rows.now a.marks.now stores a.out.now a.who a.x a.rest.now _ f
-    c.in-Ok.is _ h _ _ _ _ _ c.cut-d.ensures (c.lose.ensures (store_of a.who.desk stores))
+    let f = gate-at _ _ _ _ _ _ _ _ _ _ c.gate_at-g.ensures.why refl len in
+    let h = c.shares-h.ensures ∙ ap (λ (n : ℕ). stored_shares n a.who.desk a.marks.now) c.desks_of.ensures in
+    let r = c.row_of.ensures in
+    let m = c.marks_of.ensures in
+    rw (r.0, r.1, m.0, m.1)
+    (lost-through a.table closed a.rows.now a.marks.now stores a.out.now a.who a.x a.rest.now _ f
+    c.in-Ok.is _ h _ _ _ _ _ c.cut-d.ensures (rw (r.0, r.1, m.0, m.1) at (c.lose.ensures (store_of a.who.desk stores))))

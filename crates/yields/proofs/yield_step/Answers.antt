@@ -5,8 +5,7 @@ use mathlib.Core.Path.{sym, ap, ◌∙◌}
 use mathlib.Core.List.{[]}
 use lib.ListN.{length}
 use Rattle.memory.specs.Relay.{stranger, lacks_three}
-use Rattle.gate.specs.Tests.{proper, desk-few}
-use Rattle.gate.specs.Tests.{row-start, mark-each, mark-start, row-end, row-byte, row_within, mark-within}
+use Rattle.gate.specs.Tests.{proper, desk-few, row_within, mark-within}
 use Rattle.steps.specs.Steps.{room-three, yield-stranger, yield-lacking, yield-through}
 use Rattle.yields.proofs.yield_step.Goals.{then-is_stranger-via-then-is_stranger, then-is_stranger-via-else-is_stranger+then-lacks_three}
 use Rattle.yields.proofs.yield_step.Goals as goal
@@ -14,26 +13,20 @@ use Rattle.yields.proofs.yield_step.Goals as goal
 pub lacks_three-requires : goal.lacks_three-requires
 lacks_three-requires c = (proper _ _ (sym c.is_stranger.ensures ∙ c.if-is_stranger.false)).0
 
-pub overflow_mul-row : goal.overflow_mul-row
-overflow_mul-row c = record { fits = row-start (room-three c.args.marks.now _ _ _ _ _ _ c.is_stranger.ensures c.if-is_stranger.false c.lacks_three.ensures c.if-lacks_three.false c.desks_of-n.ensures) }
+pub row_of-requires : goal.row_of-requires
+row_of-requires c = desk-few (room-three c.args.marks.now _ _ _ _ _ _ c.is_stranger.ensures c.if-is_stranger.false c.lacks_three.ensures c.if-lacks_three.false c.desks_of-n.ensures)
 
-pub overflow_mul-mark : goal.overflow_mul-mark
-overflow_mul-mark c = record { fits = mark-each (room-three c.args.marks.now _ _ _ _ _ _ c.is_stranger.ensures c.if-is_stranger.false c.lacks_three.ensures c.if-lacks_three.false c.desks_of-n.ensures) }
-
-pub overflow_add-mark : goal.overflow_add-mark
-overflow_add-mark c = record { fits = mark-start (room-three c.args.marks.now _ _ _ _ _ _ c.is_stranger.ensures c.if-is_stranger.false c.lacks_three.ensures c.if-lacks_three.false c.desks_of-n.ensures) }
-
-pub overflow_add-row : goal.overflow_add-row
-overflow_add-row c = record { fits = row-end (room-three c.args.marks.now _ _ _ _ _ _ c.is_stranger.ensures c.if-is_stranger.false c.lacks_three.ensures c.if-lacks_three.false c.desks_of-n.ensures) }
-
-pub offset_bounds-rows-row : goal.offset_bounds-rows-row
-offset_bounds-rows-row c = record { fits = row-byte (room-three c.args.marks.now _ _ _ _ _ _ c.is_stranger.ensures c.if-is_stranger.false c.lacks_three.ensures c.if-lacks_three.false c.desks_of-n.ensures) }
+pub offset_bounds-rows-row_of : goal.offset_bounds-rows-row_of
+offset_bounds-rows-row_of c = record { fits = omega (arith, c.row_of.ensures, desk-few (room-three c.args.marks.now _ _ _ _ _ _ c.is_stranger.ensures c.if-is_stranger.false c.lacks_three.ensures c.if-lacks_three.false c.desks_of-n.ensures)) }
 
 pub slice_bounds-give_up-end : goal.slice_bounds-give_up-end
-slice_bounds-give_up-end c = omega (arith, row_within (room-three c.args.marks.now _ _ _ _ _ _ c.is_stranger.ensures c.if-is_stranger.false c.lacks_three.ensures c.if-lacks_three.false c.desks_of-n.ensures))
+slice_bounds-give_up-end c = omega (arith, c.row_of.ensures, row_within (room-three c.args.marks.now _ _ _ _ _ _ c.is_stranger.ensures c.if-is_stranger.false c.lacks_three.ensures c.if-lacks_three.false c.desks_of-n.ensures))
+
+pub marks_of-requires : goal.marks_of-requires
+marks_of-requires c = desk-few (room-three c.args.marks.now _ _ _ _ _ _ c.is_stranger.ensures c.if-is_stranger.false c.lacks_three.ensures c.if-lacks_three.false c.desks_of-n.ensures)
 
 pub slice_bounds-give_up-end-2 : goal.slice_bounds-give_up-end-2
-slice_bounds-give_up-end-2 c = omega (arith, mark-within (room-three c.args.marks.now _ _ _ _ _ _ c.is_stranger.ensures c.if-is_stranger.false c.lacks_three.ensures c.if-lacks_three.false c.desks_of-n.ensures))
+slice_bounds-give_up-end-2 c = omega (arith, c.marks_of.ensures, mark-within (room-three c.args.marks.now _ _ _ _ _ _ c.is_stranger.ensures c.if-is_stranger.false c.lacks_three.ensures c.if-lacks_three.false c.desks_of-n.ensures))
 
 pub count-requires : goal.count-requires
 count-requires c = desk-few (room-three c.args.marks.now _ _ _ _ _ _ c.is_stranger.ensures c.if-is_stranger.false c.lacks_three.ensures c.if-lacks_three.false c.desks_of-n.ensures)
@@ -57,5 +50,8 @@ returns c = λ p o.
     let f = c.is_stranger.ensures ∙ ap (λ (n : ℕ). stranger n a.who.desk) e in
     let k = c.lacks_three.ensures
     ∙ ap (λ (n : ℕ). lacks_three n a.table (length a.rows.now) (length a.marks.now)) e in
-    yield-through a.table p a.rows.now a.marks.now a.who _ f c.if-is_stranger.false _ k c.if-lacks_three.false _ _ _ _
-    (c.give_up-g.ensures p [] [] o) _ o _ c.count.ensures
+    let r = c.row_of.ensures in
+    let m = c.marks_of.ensures in
+    rw (r.0, r.1)
+    (yield-through a.table p a.rows.now a.marks.now a.who _ f c.if-is_stranger.false _ k c.if-lacks_three.false _ _ _ _
+    (rw (r.0, r.1, m.0, m.1) at (c.give_up-g.ensures p [] [] o)) _ o _ (rw (m.0, m.1) at c.count.ensures))
