@@ -8,6 +8,7 @@ ghost use Rattle.writer.specs.Find.{found, turned, sought};
 
 use writer::PartFound;
 
+#[tactic(auto, using(laws::specs::Rows::rows), unfolding(writer::specs::Find::turned))]
 fn turn(number: usize, f: PartFound, e: usize, next: usize) -> PartFound
     requires { f.count < next }
     ensures { result ≡ turned number f e next }

@@ -21,6 +21,7 @@ fn block(s: &[u8], j: usize, k: usize) -> &[u8]
     octets::cut(s, j * k, k)
 }
 
+#[tactic(auto, using(laws::specs::Rows::rows), unfolding(writer::specs::Returns::block_type))]
 fn block_type(j: usize) -> usize
     ensures { result ≡ block_type j }
 {
