@@ -11,6 +11,7 @@ use paper::limits::PARTS_MOST;
 use sample::Place;
 
 // Whether a part of that TYPE may stand behind one of the last TYPE; before the first stands 0.
+#[tactic(auto, using(laws::specs::Rows::rows), unfolding(sample::specs::Order::follows))]
 fn follows(last: usize, kind: usize) -> bool
     ensures { result ≡ follows last kind }
 {

@@ -35,6 +35,7 @@ pub fn agrees(p: &Place, x: Part) -> bool
 }
 
 // Refusal 5 for what the part itself tells, with that many bytes kept.
+#[tactic(auto, using(laws::specs::Rows::rows))]
 fn exceeds(x: Part, sum: usize) -> bool
     ensures { result ≡ (sample_most <? sum or x.kind =? 2 and (sample_most <? x.slen or x.slen <? sum)) }
 {
