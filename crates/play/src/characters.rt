@@ -16,11 +16,10 @@ fn show(rt: &impl Print, u: usize, s: &[u8], at: usize, limit: usize) -> io::Res
 // `text U AT LIMIT BYTES`.
 pub(crate) fn text(rt: &impl Print, line: &[u8]) -> io::Result<()> {
     let mut s = [0u8; STRING_MOST];
-    let n = script::bytes(line, 4, &mut s);
     show(
         rt,
         script::number(line, 1),
-        octets::cut(&s, 0, n),
+        script::bytes(line, 4, &mut s),
         script::number(line, 2),
         script::number(line, 3),
     )

@@ -59,39 +59,17 @@ fn case(
     tell(rt, w, &out)
 }
 
-// Eight letters that just fit the size limit.
-fn fields(rt: &impl Print, sidx: usize, sdur: usize, out: &mut [u8]) -> io::Result<()> {
+// Eight letters that just fit the size limit: `enough SIDX SDUR` with an output of the limit, `short SIDX SDUR` with one byte less.
+pub(crate) fn fields(rt: &impl Print, line: &[u8], out: &mut [u8]) -> io::Result<()> {
     let c = Sample {
         u: 0,
-        sidx,
-        sdur,
+        sidx: script::number(line, 1),
+        sdur: script::number(line, 2),
         string: b"abcdefgh",
         modifiers: b"",
     };
     let w = writes::write_sample(&c, 17, 1, out);
     tell(rt, w, out)
-}
-
-// `enough SIDX SDUR`: with an output of the size limit.
-pub(crate) fn enough(rt: &impl Print, line: &[u8]) -> io::Result<()> {
-    let mut out = [0xaau8; 17];
-    fields(
-        rt,
-        script::number(line, 1),
-        script::number(line, 2),
-        &mut out,
-    )
-}
-
-// `short SIDX SDUR`: with one byte less.
-pub(crate) fn short(rt: &impl Print, line: &[u8]) -> io::Result<()> {
-    let mut out = [0xaau8; 16];
-    fields(
-        rt,
-        script::number(line, 1),
-        script::number(line, 2),
-        &mut out,
-    )
 }
 
 // `description SIDX N M K`.

@@ -58,13 +58,12 @@ fn take(rt: &impl Print, h: Hall, desk: usize, time: Time, rest: &[u8]) -> io::R
 // `receive DESK TIME BYTES`; TIME is `?` where it is unknown.
 pub(crate) fn receive(rt: &impl Print, h: Hall, line: &[u8]) -> io::Result<Hall> {
     let mut rest = [0u8; PAYLOAD_MOST];
-    let n = script::bytes(line, 3, &mut rest);
     take(
         rt,
         h,
         script::number(line, 1),
         script::running(line, 2),
-        octets::cut(&rest, 0, n),
+        script::bytes(line, 3, &mut rest),
     )
 }
 
@@ -95,8 +94,7 @@ fn cut_and_take(rt: &impl Print, h: Hall, line: &[u8], text: &[u8]) -> io::Resul
 // `send DESK TIME M K BYTES`.
 pub(crate) fn send(rt: &impl Print, h: Hall, line: &[u8]) -> io::Result<Hall> {
     let mut text = [0u8; PAYLOAD_MOST];
-    let n = script::bytes(line, 5, &mut text);
-    cut_and_take(rt, h, line, octets::cut(&text, 0, n))
+    cut_and_take(rt, h, line, script::bytes(line, 5, &mut text))
 }
 
 // `give-up DESK TIME`: 0, or the refusal.
@@ -116,10 +114,15 @@ pub(crate) fn look(rt: &impl Print, h: Hall, line: &[u8]) -> io::Result<Hall> {
     let marks = h.marks;
     let stores = h.stores;
     let mut book = [0u8; BOOK_MOST];
-    let n = script::bytes(line, 3, &mut book);
     let desk = script::number(line, 1);
     let index = script::number(line, 2);
-    let d = relay::lookup(&marks, &stores, desk, index, octets::cut(&book, 0, n));
+    let d = relay::lookup(
+        &marks,
+        &stores,
+        desk,
+        index,
+        script::bytes(line, 3, &mut book),
+    );
     print::number(rt, d.len())?;
     print::bytes(rt, octets::cut(d, 0, 20))?;
     Ok(h)
@@ -128,8 +131,7 @@ pub(crate) fn look(rt: &impl Print, h: Hall, line: &[u8]) -> io::Result<Hall> {
 // `book BYTES`: how many records a good style book has; or the refusal, and the first bad one's number.
 pub(crate) fn book(rt: &impl Print, line: &[u8]) -> io::Result<()> {
     let mut book = [0u8; BOOK_MOST];
-    let n = script::bytes(line, 1, &mut book);
-    match book::check(octets::cut(&book, 0, n)) {
+    match book::check(script::bytes(line, 1, &mut book)) {
         Ok(many) => print::number(rt, many),
         Err(bad) => {
             print::refused(rt, bad.why)?;

@@ -38,8 +38,7 @@ fn tell(rt: &impl Print, x: Unit) -> io::Result<()> {
 // `rest BYTES`: the bytes used, and the unit.
 pub(crate) fn rest(rt: &impl Print, line: &[u8]) -> io::Result<()> {
     let mut s = [0u8; REST_MOST];
-    let n = script::bytes(line, 1, &mut s);
-    let r = reads::read(octets::cut(&s, 0, n));
+    let r = reads::read(script::bytes(line, 1, &mut s));
     print::number(rt, r.used)?;
     tell(rt, r.unit)
 }

@@ -28,12 +28,12 @@ fn answer(rt: &impl Print, h: Hall, call: Call, line: &[u8]) -> io::Result<Hall>
         Call::HeadDescription => layouts::head_description(rt, line)?,
         Call::HeadSkipped => layouts::head_skipped(rt, line)?,
         Call::Sample => cutting::sample(rt, line)?,
-        Call::Enough => cutting::enough(rt, line)?,
-        Call::Short => cutting::short(rt, line)?,
+        Call::Enough => cutting::fields(rt, line, &mut [0xaa; 17])?,
+        Call::Short => cutting::fields(rt, line, &mut [0xaa; 16])?,
         Call::Description => cutting::description(rt, line)?,
         Call::Modifiers => walk::modifiers(rt, line)?,
-        Call::Mark => times::mark(rt, line)?,
-        Call::MarkThree => times::mark_three(rt, line)?,
+        Call::Mark => times::mark(rt, line, &mut times::EIGHTEEN)?,
+        Call::MarkThree => times::mark(rt, line, &mut times::THREE)?,
         Call::Book => desks::book(rt, line)?,
         Call::SetUp => return Ok(desks::set_up(line)),
         Call::Receive => return desks::receive(rt, h, line),
@@ -50,7 +50,7 @@ fn play_line(rt: &impl Print, h: Hall, line: &[u8]) -> io::Result<Hall> {
         return Ok(h);
     }
     print::text(rt, line)?;
-    let Some(call) = script::call_of(line) else {
+    let Ok(call) = Call::try_from(script::word(line, 0)) else {
         print::text(rt, b" ?\n")?;
         return Ok(h);
     };

@@ -28,35 +28,39 @@ pub(crate) enum Call {
     Book,
 }
 
-pub(crate) fn is_remark(line: &[u8]) -> bool {
-    word(line, 0) == b"#".as_slice()
+// The call that a word names.
+impl TryFrom<&[u8]> for Call {
+    type Error = ();
+
+    fn try_from(name: &[u8]) -> Result<Call, ()> {
+        let call = match name {
+            b"text" => Call::Text,
+            b"rest" => Call::Rest,
+            b"head-whole" => Call::HeadWhole,
+            b"head-part" => Call::HeadPart,
+            b"head-description" => Call::HeadDescription,
+            b"head-skipped" => Call::HeadSkipped,
+            b"sample" => Call::Sample,
+            b"enough" => Call::Enough,
+            b"short" => Call::Short,
+            b"description" => Call::Description,
+            b"modifiers" => Call::Modifiers,
+            b"mark" => Call::Mark,
+            b"mark-three" => Call::MarkThree,
+            b"set-up" => Call::SetUp,
+            b"receive" => Call::Receive,
+            b"send" => Call::Send,
+            b"give-up" => Call::GiveUp,
+            b"look" => Call::Look,
+            b"book" => Call::Book,
+            _ => return Err(()),
+        };
+        Ok(call)
+    }
 }
 
-// Which call a line is, by its first word.
-pub(crate) fn call_of(line: &[u8]) -> Option<Call> {
-    let call = match word(line, 0) {
-        b"text" => Call::Text,
-        b"rest" => Call::Rest,
-        b"head-whole" => Call::HeadWhole,
-        b"head-part" => Call::HeadPart,
-        b"head-description" => Call::HeadDescription,
-        b"head-skipped" => Call::HeadSkipped,
-        b"sample" => Call::Sample,
-        b"enough" => Call::Enough,
-        b"short" => Call::Short,
-        b"description" => Call::Description,
-        b"modifiers" => Call::Modifiers,
-        b"mark" => Call::Mark,
-        b"mark-three" => Call::MarkThree,
-        b"set-up" => Call::SetUp,
-        b"receive" => Call::Receive,
-        b"send" => Call::Send,
-        b"give-up" => Call::GiveUp,
-        b"look" => Call::Look,
-        b"book" => Call::Book,
-        _ => return None,
-    };
-    Some(call)
+pub(crate) fn is_remark(line: &[u8]) -> bool {
+    word(line, 0) == b"#".as_slice()
 }
 
 // Word k of a line, from 0; none past the last.
@@ -111,16 +115,7 @@ fn byte_of(w: &[u8]) -> u8 {
     hex_digit(high) * 16 + hex_digit(low)
 }
 
-// One byte more, where there is room; answers the place behind it.
-fn put_byte(out: &mut [u8], at: usize, b: u8) -> usize {
-    if at < out.len() {
-        out[at] = b;
-        return at + 1;
-    }
-    at
-}
-
-// A byte so often as it says; answers the place behind the last.
+// A byte so often as it says, where there is room; answers the place behind the last.
 fn put_again(out: &mut [u8], at: usize, b: u8, many: usize) -> usize {
     let from = at.min(out.len());
     let end = from + many.min(out.len() - from);
@@ -132,7 +127,7 @@ fn put_again(out: &mut [u8], at: usize, b: u8, many: usize) -> usize {
 fn put_digits(out: &mut [u8], at: usize, w: &[u8]) -> usize {
     let mut next = at;
     for digits in w.chunks_exact(2) {
-        next = put_byte(out, next, byte_of(digits));
+        next = put_again(out, next, byte_of(digits), 1);
     }
     next
 }
@@ -145,8 +140,8 @@ fn put_word(out: &mut [u8], at: usize, w: &[u8]) -> usize {
     }
 }
 
-// The bytes of the words from word k on, at the front of the output; answers how many they are.
-pub(crate) fn bytes(line: &[u8], k: usize, out: &mut [u8]) -> usize {
+// The bytes of the words from word k on, at the front of the output.
+pub(crate) fn bytes<'a>(line: &[u8], k: usize, out: &'a mut [u8]) -> &'a [u8] {
     let mut n = 0;
     for word in line
         .split(|byte| *byte == b' ')
@@ -155,5 +150,5 @@ pub(crate) fn bytes(line: &[u8], k: usize, out: &mut [u8]) -> usize {
     {
         n = put_word(out, n, word);
     }
-    n
+    octets::cut(out, 0, n)
 }

@@ -25,6 +25,5 @@ fn place(rt: &impl Print, m: &[u8], at: usize) -> io::Result<()> {
 // `modifiers AT BYTES`.
 pub(crate) fn modifiers(rt: &impl Print, line: &[u8]) -> io::Result<()> {
     let mut m = [0u8; MODIFIERS_MOST];
-    let n = script::bytes(line, 2, &mut m);
-    place(rt, octets::cut(&m, 0, n), script::number(line, 1))
+    place(rt, script::bytes(line, 2, &mut m), script::number(line, 1))
 }
