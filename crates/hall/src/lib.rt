@@ -1,4 +1,4 @@
-// A relay with its memory for eight desks and an output in one value, for programs, over `held`.
+// A relay with its memory for eight desks and an output in one value, for programs, over `relay`.
 #![tactic(auto)]
 
 ghost use Rattle.std.specs.Prelude.{◌≡◌, replicate};
@@ -30,73 +30,45 @@ pub struct Told<A> {
 pub fn set_up(n: usize) -> Hall
     ensures { (tables_of result ≡ (set_up n lent).tables) × (result.out ≡ replicate sample_most 0) }
 {
-    let places = [bare::closed(); PLACES_MOST];
-    let mut rows = [7u32; ROWS_MOST];
-    let mut marks = [9u32; MARKS_MOST];
-    let mut stores = [7u8; STORES_MOST];
-    let r = held::set_up(n, places, &mut rows, &mut marks, &mut stores);
-    let after = r.places;
-    Hall {
-        places: after,
-        rows,
-        marks,
-        stores,
+    let mut hall = Hall {
+        places: [bare::closed(); PLACES_MOST],
+        rows: [7u32; ROWS_MOST],
+        marks: [9u32; MARKS_MOST],
+        stores: [7u8; STORES_MOST],
         out: [0u8; SAMPLE_MOST],
-    }
+    };
+    let _ = relay::set_up(
+        n,
+        &mut hall.places,
+        &mut hall.rows,
+        &mut hall.marks,
+        &mut hall.stores,
+    );
+    hall
 }
 
 // One call of a desk.
 pub fn receive(h: Hall, who: Sender, rest: &[u8]) -> Told<Answer>
     ensures { heard result ≡ received_at (tables_of h) who rest.now h.out }
 {
-    let places = h.places;
-    let mut rows = h.rows;
-    let mut marks = h.marks;
-    let mut stores = h.stores;
-    let mut out = h.out;
-    let r = held::receive(
-        places,
-        &mut rows,
-        &mut marks,
-        &mut stores,
+    let mut hall = h;
+    let answer = relay::receive(
+        &mut hall.places,
+        &mut hall.rows,
+        &mut hall.marks,
+        &mut hall.stores,
         who,
         rest,
-        &mut out,
+        &mut hall.out,
     );
-    let after = r.places;
-    let answer = r.answer;
-    Told {
-        hall: Hall {
-            places: after,
-            rows,
-            marks,
-            stores,
-            out,
-        },
-        answer,
-    }
+    Told { hall, answer }
 }
 
 // A desk gives its sample of a time up.
 pub fn give_up(h: Hall, who: Name) -> Told<Result<(), Refusal>>
     ensures { (freed result ≡ given_up_at (tables_of h) who) × (result.hall.out ≡ h.out) }
 {
-    let places = h.places;
-    let mut rows = h.rows;
-    let mut marks = h.marks;
-    let stores = h.stores;
-    let out = h.out;
-    let r = held::give_up(places, &mut rows, &mut marks, who);
-    let after = r.places;
-    let answer = r.answer;
-    Told {
-        hall: Hall {
-            places: after,
-            rows,
-            marks,
-            stores,
-            out,
-        },
-        answer,
-    }
+    let mut hall = h;
+    let answer = relay::give_up(&mut hall.places, &mut hall.rows, &mut hall.marks, who);
+    Told { hall, answer }
 }

@@ -1,5 +1,4 @@
-// The relay over a table by value, for callers that keep it in a local: the three calls that lend the table, and `hall` and `list` stand
-// on them.
+// The relay over a table by value, for callers that keep it in a local: the three calls that lend the table, and `list` stands on them.
 #![tactic(auto)]
 
 ghost use Rattle.memory.specs.Lent.{SetsUp, Receives, GivesUp};

@@ -5,4 +5,4 @@ use Rattle.hall.proofs.give_up.Goals as goal
 pub returns : goal.returns
 returns c =
     let h = c.args.h in
-    (c.give_up-r.ensures h.stores, refl)
+    (c.give_up-answer.ensures h.stores, refl)

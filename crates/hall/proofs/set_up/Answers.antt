@@ -9,7 +9,7 @@ use Rattle.hall.proofs.set_up.Goals as goal
 pub returns : goal.returns
 returns c =
     let n = c.args.n in
-    let e = c.set_up-r.ensures
+    let e = c.set_up.ensures
     ∙ ap (λ (p : Place). set_up n (tables (replicate places_most p) (replicate rows_most 7) (replicate marks_most 9) (replicate stores_most 7)))
-    c.closed-places.ensures in
+    c.closed.ensures in
     (ap (λ (m : Prepared). m.tables) e, refl)
