@@ -12,7 +12,10 @@ use sample::Place;
 pub fn bears(when: u32, who: Sender) -> bool
     ensures { result ≡ is_time who.time when }
 {
-    Some(when) == who.time
+    match who.time {
+        Some(time) => when == time,
+        None => false,
+    }
 }
 
 // Whether a place is the sender's sample: the time is compared first, since it differs most often.
@@ -26,12 +29,12 @@ fn is_of(p: &Place, who: Sender) -> bool
 pub fn find(t: &[Place], m: usize, who: Sender) -> Option<usize>
     ensures { result ≡ place_where (is_at who.desk who.time) (take m t.now) }
 {
-    t.iter().take(m).position(|p| is_of(p, who))
+    t[..t.len().min(m)].iter().position(|p| is_of(p, who))
 }
 
 // The lowest free place of the first m.
 pub fn lowest(t: &[Place], m: usize) -> Option<usize>
     ensures { result ≡ place_where vacant (take m t.now) }
 {
-    t.iter().take(m).position(|p| !p.used)
+    t[..t.len().min(m)].iter().position(|p| !p.used)
 }
