@@ -1,12 +1,20 @@
 -- Determined, one line for each public function that answers a place or none, a Result, or leaves one lent place of the table.
 -- Assumes nothing.
-use Rattle.std.specs.Prelude.{ℕ, ◌≡◌, refl, Bool, Option, List, length, take, replicate}
+use Rattle.std.specs.Prelude.{ℕ, ◌+◌, ◌*◌, ◌≡◌, refl, Bool, Option, OnOk, List, length, take, replicate}
 use Rattle.std.proofs.lemmas.List.{length-replicate}
-use Rattle.laws.specs.Exactly.{Determines, determined, equation}
+use Rattle.laws.specs.Exactly.{Determines, determined, equation, determined-by-two}
 use Rattle.paper.specs.declared.Answer.{Answer}
 use Rattle.paper.specs.declared.Name.{Name}
 use Rattle.paper.specs.declared.Sender.{Sender}
 use Rattle.paper.specs.Words.{whose}
+use Rattle.paper.specs.Limits.{finished_most, head_size, marks_each, store_size}
+use Rattle.std.specs.declared.ops.Range.{Range}
+use Rattle.writer.specs.declared.Sample.{Sample}
+use Rattle.writer.specs.Write.{sample}
+use Rattle.writer.specs.Lent.{caption_of}
+use Rattle.memory.specs.Relay.{desks_of}
+use Rattle.gate.specs.Passes.{Gate}
+use Rattle.gate.specs.Gate.{gate_of, Holds}
 use Rattle.sample.specs.declared.Place.{Place}
 use Rattle.sample.specs.Place.{bare}
 use Rattle.desk.specs.GivenUp.{GivenUp}
@@ -63,3 +71,28 @@ yields-given-up table is_open rows marks who =
     determined (λ (r : GivenUp × List ℕ × List ℕ). yield (place_after r.0 p) r.0 r.1 r.2)
     (λ (z : Yield). (z.answer, z.rows, z.marks)) (λ r. refl)
     (yielding table p rows marks who) r s (a p refl) (b p refl)
+
+-- ---- the gate of a call, and where a desk's own things stand in what is lent
+pub gate-gate-at : (table : ℕ) (rows marks : List ℕ) (stores desk : ℕ) (out : List ℕ)
+    → Determines (λ (r : Gate). (r ≡ gate_of (desks_of marks) table (length rows) (length marks) stores desk (length out))
+    × OnOk r (Holds desk (length rows) (length marks) stores))
+gate-gate-at table rows marks stores desk out =
+    λ r s a b. equation (gate_of (desks_of marks) table (length rows) (length marks) stores desk (length out)) r s a.0 b.0
+
+module _ (from to : ℕ) where
+  between : Determines (λ (r : Range ℕ). (r.start ≡ from) × (r.end ≡ to))
+  between = determined-by-two (λ r. r.start) (λ r. r.end) (λ a b. record { start = a; end = b }) (λ r. refl) from to
+
+pub gate-row-of : (desk : ℕ)
+    → Determines (λ (r : Range ℕ). (r.start ≡ finished_most * desk) × (r.end ≡ finished_most * desk + finished_most))
+gate-row-of desk = between (finished_most * desk) (finished_most * desk + finished_most)
+
+pub gate-marks-of : (desk : ℕ) → Determines (λ (r : Range ℕ).
+    (r.start ≡ head_size + marks_each * desk) × (r.end ≡ head_size + marks_each * desk + marks_each))
+gate-marks-of desk = between (head_size + marks_each * desk) (head_size + marks_each * desk + marks_each)
+
+pub gate-store-of : (desk : ℕ) → Determines (λ (r : Range ℕ). (r.start ≡ store_size * desk) × (r.end ≡ store_size * desk + store_size))
+gate-store-of desk = between (store_size * desk) (store_size * desk + store_size)
+
+pub writer-slen : (s : Sample) → Determines (λ (r : ℕ). r ≡ length (sample (caption_of s)))
+writer-slen s = equation (length (sample (caption_of s)))
