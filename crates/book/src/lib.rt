@@ -12,18 +12,22 @@ use style::BadRecord;
 fn is_filled(s: &[u8]) -> bool
     ensures { result ≡ filled s.now }
 {
-    s.iter().any(|b| 0 < *b)
+    for i in 0..s.len() {
+        if 0 < s[i] {
+            return true;
+        }
+    }
+    false
 }
 
 fn is_broken(r: &[u8]) -> bool
     ensures { result ≡ broken r.now }
 {
-    let len = octets::number::<2>(r, 2);
     r.len() < RECORD_SIZE
         || !(IN_BAND..RESERVED).contains(&octets::byte(r, 0))
         || 0 < octets::byte(r, 1)
-        || !(1..=DESCRIPTION_MOST).contains(&len)
-        || is_filled(octets::cut(r, 4 + len, RECORD_SIZE))
+        || !(1..=DESCRIPTION_MOST).contains(&octets::number::<2>(r, 2))
+        || is_filled(octets::cut(r, 4 + octets::number::<2>(r, 2), RECORD_SIZE))
 }
 
 fn is_falling(book: &[u8], i: usize) -> bool

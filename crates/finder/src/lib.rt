@@ -8,7 +8,9 @@ ghost use Rattle.text.specs.Unicode.{character};
 
 use text::Range;
 
-// The length of the well-formed character at a place, where there is one.
+// The length of the well-formed character at a place, where there is one. It is put into each caller, since an Option that is handed over
+// by a call takes longer than the number in it.
+#[inline(always)]
 pub fn character(u: usize, s: &[u8], at: usize) -> Option<usize>
     ensures { result ≡ found (character u (drop at s.now)) }
 {

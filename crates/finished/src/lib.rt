@@ -13,23 +13,32 @@ fn held(row: &[u32], used: usize) -> &[u32]
     octets::cut(row, 0, used.min(FINISHED_MOST))
 }
 
-// Whether the time is a finished one.
+// Whether the time is a finished one. The search is not left early, as `contains` leaves it, so that the compiler makes it several numbers
+// wide.
 pub fn is_late(row: &[u32], used: usize, time: u32) -> bool
     ensures { result ≡ late row.now used time }
 {
-    held(row, used).contains(&time)
+    let times = held(row, used);
+    let mut hit = false;
+    for x in times {
+        hit |= *x == time;
+    }
+    hit
 }
 
-// The oldest goes, the others move down, and the time is the last.
+// The oldest goes, the others move down, and the time is the last: from the last to the first each number goes to the place before it. With
+// `copy_within` the library for C would ask its callers for `memmove`.
 fn move_down(row: &mut [u32], time: u32)
     ensures { row.new ≡ moved_row row.old time }
 {
     let n = row.len().min(FINISHED_MOST);
-    if n == 0 {
-        return;
+    let mut next = time;
+    for k in 0..n {
+        let at = n - 1 - k;
+        let moved = row[at];
+        row[at] = next;
+        next = moved;
     }
-    row.copy_within(1..n, 0);
-    row[n - 1] = time;
 }
 
 // Marks the time finished, and answers how many are in use afterwards.

@@ -21,13 +21,11 @@ fn sample(rt: &impl Print, f: Facts, out: &[u8]) -> io::Result<()> {
 }
 
 // What the halls are handed, if anything.
-fn hand_out(rt: &impl Print, h: Hall, outcome: Outcome) -> io::Result<Hall> {
-    let out = h.out;
+fn hand_out(rt: &impl Print, h: &Hall, outcome: Outcome) -> io::Result<()> {
     match outcome {
-        Outcome::Whole(f) | Outcome::Joined(f) => sample(rt, f, &out)?,
-        _ => {}
+        Outcome::Whole(f) | Outcome::Joined(f) => sample(rt, f, &h.out),
+        _ => Ok(()),
     }
-    Ok(h)
 }
 
 // A running time; `?` where it is unknown.
@@ -44,19 +42,20 @@ pub(crate) fn set_up(line: &[u8]) -> Hall {
 }
 
 // The next running time, what the listing says of the payload's first unit, and what is handed out.
-fn take(rt: &impl Print, h: Hall, desk: usize, time: Time, rest: &[u8]) -> io::Result<Hall> {
-    let r = hall::receive(h, Sender { desk, time }, rest);
+fn take(rt: &impl Print, h: &mut Hall, desk: usize, time: Time, rest: &[u8]) -> io::Result<()> {
+    let r = hall::receive(*h, Sender { desk, time }, rest);
+    *h = r.hall;
     let answer = r.answer;
     let mut line = [0u8; 64];
     let end = lines::put_line(&mut line, 0, 0, time, answer);
     print_time(rt, answer.next)?;
     print::blank(rt)?;
     print::text(rt, octets::cut(&line, 0, end.saturating_sub(1)))?;
-    hand_out(rt, r.hall, answer.outcome)
+    hand_out(rt, h, answer.outcome)
 }
 
 // `receive DESK TIME BYTES`; TIME is `?` where it is unknown.
-pub(crate) fn receive(rt: &impl Print, h: Hall, line: &[u8]) -> io::Result<Hall> {
+pub(crate) fn receive(rt: &impl Print, h: &mut Hall, line: &[u8]) -> io::Result<()> {
     let mut rest = [0u8; PAYLOAD_MOST];
     take(
         rt,
@@ -68,7 +67,7 @@ pub(crate) fn receive(rt: &impl Print, h: Hall, line: &[u8]) -> io::Result<Hall>
 }
 
 // Payload k of a caption, cut for the size limit m, is received.
-fn cut_and_take(rt: &impl Print, h: Hall, line: &[u8], text: &[u8]) -> io::Result<Hall> {
+fn cut_and_take(rt: &impl Print, h: &mut Hall, line: &[u8], text: &[u8]) -> io::Result<()> {
     let mut out = [0u8; PAYLOAD_MOST];
     let m = script::number(line, 3);
     let k = script::number(line, 4);
@@ -87,45 +86,42 @@ fn cut_and_take(rt: &impl Print, h: Hall, line: &[u8], text: &[u8]) -> io::Resul
             script::running(line, 2),
             octets::cut(&out, 0, len),
         ),
-        Err(_) => Ok(h),
+        Err(_) => Ok(()),
     }
 }
 
 // `send DESK TIME M K BYTES`.
-pub(crate) fn send(rt: &impl Print, h: Hall, line: &[u8]) -> io::Result<Hall> {
+pub(crate) fn send(rt: &impl Print, h: &mut Hall, line: &[u8]) -> io::Result<()> {
     let mut text = [0u8; PAYLOAD_MOST];
     cut_and_take(rt, h, line, script::bytes(line, 5, &mut text))
 }
 
 // `give-up DESK TIME`: 0, or the refusal.
-pub(crate) fn give_up(rt: &impl Print, h: Hall, line: &[u8]) -> io::Result<Hall> {
+pub(crate) fn give_up(rt: &impl Print, h: &mut Hall, line: &[u8]) -> io::Result<()> {
     let desk = script::number(line, 1);
     let time = script::time(line, 2);
-    let r = hall::give_up(h, Name { desk, time });
+    let r = hall::give_up(*h, Name { desk, time });
+    *h = r.hall;
     match r.answer {
-        Ok(()) => print::number(rt, 0)?,
-        Err(why) => print::refused(rt, why)?,
+        Ok(()) => print::number(rt, 0),
+        Err(why) => print::refused(rt, why),
     }
-    Ok(r.hall)
 }
 
 // `look DESK INDEX BOOK`: how long the description is that an index shows, and its front.
-pub(crate) fn look(rt: &impl Print, h: Hall, line: &[u8]) -> io::Result<Hall> {
-    let marks = h.marks;
-    let stores = h.stores;
+pub(crate) fn look(rt: &impl Print, h: &Hall, line: &[u8]) -> io::Result<()> {
     let mut book = [0u8; BOOK_MOST];
     let desk = script::number(line, 1);
     let index = script::number(line, 2);
     let d = relay::lookup(
-        &marks,
-        &stores,
+        &h.marks,
+        &h.stores,
         desk,
         index,
         script::bytes(line, 3, &mut book),
     );
     print::number(rt, d.len())?;
-    print::bytes(rt, octets::cut(d, 0, 20))?;
-    Ok(h)
+    print::bytes(rt, octets::cut(d, 0, 20))
 }
 
 // `book BYTES`: how many records a good style book has; or the refusal, and the first bad one's number.

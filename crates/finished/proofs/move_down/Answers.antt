@@ -1,9 +1,20 @@
--- `finished::move_down` meets its contract: what is copied down is all but the last. Assumes nothing.
-use Rattle.finished.proofs.Times.{moves-none, moved-down}
+-- `finished::move_down` meets its contract: turn by turn one more number stands where it goes. Assumes nothing.
+use Rattle.std.proofs.Common.{arith, ◌∙◌, length-set}
+use Rattle.finished.proofs.Times.{one-moved, next-moved, all-moved}
 use Rattle.finished.proofs.move_down.Goals as goal
 
-pub returns-then-n-eq0 : goal.returns-then-n-eq0
-returns-then-n-eq0 c = moves-none c.args.row.now c.args.time _ c.min-n.ensures c.if-n-eq0.true
+pub loop-k-preserved : goal.loop-k-preserved
+loop-k-preserved c =
+    let l = c.loop-k in
+    let a = c.args in
+    let r = l.invariant.1 in (
+      length-set l.row _ _ ∙ l.invariant.0,
+      one-moved a.row.now l.row a.time _ l.k c.min-n.ensures r l.next c.loop-k-test.true (l.invariant.2 c.loop-k-test.true),
+      next-moved a.row.now l.row a.time _ l.k c.min-n.ensures r,
+    )
 
 pub returns : goal.returns
-returns c = rw c.copy_within.ensures.after (moved-down c.args.row.now c.args.time _ c.min-n.ensures c.if-n-eq0.false)
+returns c =
+    let l = c.loop-k in
+    let a = c.args in
+    all-moved a.row.now l.row a.time _ l.k c.min-n.ensures l.invariant.1 (omega arith)

@@ -1,10 +1,9 @@
--- `octets::put` meets its contract: what is copied is as much of src as there is room for. Assumes nothing.
-use Rattle.std.proofs.Common.{ℕ, suc, ◌≡◌, ◌≤◌, ◌<◌, ◌+◌, ◌-◌, min, arith, sym, ◌∙◌, List, [], ◌∷◌, length, take, drop, set, length-set, length-take, append_assoc, drop-drop}
+-- `octets::put` meets its contract: what is stored is as much of src as there is room for. Assumes nothing.
+use Rattle.std.proofs.Common.{ℕ, suc, ◌≡◌, ◌<◌, ◌+◌, ◌-◌, min, arith, add-one, sym, ◌∙◌, List, [], ◌∷◌, length, take, drop, set, length-set, length-drop}
 use Rattle.std.proofs.Math.Decide.{dec_lt}
 use Rattle.std.proofs.Math.Seq.{take-nil}
-use Rattle.std.proofs.lemmas.List.Edits.{sets, sets-eq}
-use borrow.Rule.Slice.PartMut.{put_mid}
-use Rattle.laws.specs.Region.{sets-full}
+use Rattle.std.proofs.lemmas.List.Edits.{sets}
+use Rattle.laws.specs.Region.{sets-turn, sets-full, sets-stop}
 use Rattle.octets.proofs.put.Goals as goal
 
 -- what there is no room for is not stored
@@ -25,16 +24,18 @@ clamped vs l k = go (dec_lt k (length l))
     go (yes h) = let e : min k (length l) ≡ k = omega arith in rw e
     go (no h) = sets-full vs l (min k (length l)) (omega arith) ∙ sym (sets-full vs l k (omega arith))
 
-copied : (vs l : List ℕ) (k : ℕ) → k + length vs ≤ length l → put_mid k (k + length vs - k) l vs ≡ sets l k vs
-copied vs l k h =
-    let e : k + length vs - k ≡ length vs = omega arith in
-    rw e (rw (drop-drop (length vs) k l) (sym (append_assoc (take k l) vs (drop (k + length vs) l)) ∙ sym (sets-eq vs l k h)))
+pub loop-i-preserved : goal.loop-i-preserved
+loop-i-preserved c =
+    let l = c.loop-i in
+    let e : c.min-from.result + (l.i + 1) ≡ suc (c.min-from.result + l.i) = omega arith in (
+      length-set l.dst _ _ ∙ l.invariant.0,
+      l.invariant.1 ∙ rw (e, add-one l.i) (sets-turn l.dst (c.min-from.result + l.i) c.cut-fits.result.now l.i 0 (omega arith)),
+    )
 
 pub returns : goal.returns
 returns c =
+    let l = c.loop-i in
     let d = c.args.dst.now in
     let s = c.args.src.now in
-    rw (c.copy_from_slice.ensures.after, c.cut-fits.ensures, c.min-from.ensures)
-    (copied (take (length d - min c.args.at (length d)) s) d (min c.args.at (length d)) (simp length-take (omega arith))
-    ∙ fits_only s d (min c.args.at (length d))
-    ∙ clamped s d c.args.at)
+    sym (l.invariant.1 ∙ sets-stop (drop l.i c.cut-fits.result.now) l.dst (c.min-from.result + l.i) (simp length-drop (omega arith)))
+    ∙ rw (c.cut-fits.ensures, c.min-from.ensures) (fits_only s d (min c.args.at (length d)) ∙ clamped s d c.args.at)
