@@ -40,9 +40,9 @@ pub fn eight(s: &[u8]) -> Option<usize>
     if k > 0 { Some(k) } else { None }
 }
 
-// The same as a number, 0 for none, since an Option that is told row by row takes up to 1.5 times as long: the lead byte tells the row. Here
-// are the rows of one byte and two. The rows are asked one by one, so that the compiler knows their numbers: on Greek a loop over CHART
-// took five times as long, and `find` 1.6 times.
+// The same as a number, 0 for none, since an Option that is told row by row takes up to 1.5 times as long: the lead byte tells the row.
+// Here are the rows of one byte and two. The rows are asked one by one, so that the compiler knows their numbers: on Greek a loop over
+// CHART took five times as long, and `find` 1.6 times.
 #[tactic(auto, using(text::proofs::Finder::finding), unfolding(text::specs::Chart::chart, text::specs::Chart::charted))]
 fn length(s: &[u8]) -> usize
     ensures { result ≡ character 0 s.now }

@@ -8,17 +8,25 @@ ghost use Rattle.text.specs.Unicode.{character};
 
 use text::Range;
 
-// The length of the well-formed character at a place, where there is one. It is put into each caller, since an Option that is handed over
-// by a call takes longer than the number in it.
+// The length of the well-formed character at a place, where there is one. It is put into each caller, and what is called is told by a
+// number, since an Option that is handed over by a call takes longer.
 #[inline(always)]
 pub fn character(u: usize, s: &[u8], at: usize) -> Option<usize>
     ensures { result ≡ found (character u (drop at s.now)) }
 {
+    let k = length(u, s, at);
+    if k > 0 { Some(k) } else { None }
+}
+
+// The same as a number, 0 for none.
+fn length(u: usize, s: &[u8], at: usize) -> usize
+    ensures { result ≡ character u (drop at s.now) }
+{
     let rest = octets::cut(s, at, s.len());
     if u == 0 {
-        chart::eight(rest)
+        chart::eight(rest).unwrap_or(0)
     } else {
-        sixteen(rest)
+        sixteen(rest).unwrap_or(0)
     }
 }
 
