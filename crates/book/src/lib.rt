@@ -20,7 +20,7 @@ fn is_filled(s: &[u8]) -> bool
     false
 }
 
-// The length is read twice, and behind the test of the size: read once in front of all tests, a check of full records took longer.
+// The length is read where it is asked for, behind the test of the size.
 fn is_broken(r: &[u8]) -> bool
     ensures { result ≡ broken r.now }
 {
